@@ -1,0 +1,3 @@
+pub mod If
+pub mod Put
+pub mod All
