@@ -99,9 +99,9 @@ width v = if leb v 0x7F then 1 else if leb v 0x7FF then 2 else if leb v 0xFFFF t
 unfoldable pub encode : ℕ → List ℕ
 encode v =
     if leb v 0x7F then v ∷ []
-    else if leb v 0x7FF then 0xC0 + v / 64 ∷ 0x80 + v % 64 ∷ []
-    else if leb v 0xFFFF then 0xE0 + v / 4096 ∷ 0x80 + v / 64 % 64 ∷ 0x80 + v % 64 ∷ []
-    else 0xF0 + v / 262144 ∷ 0x80 + v / 4096 % 64 ∷ 0x80 + v / 64 % 64 ∷ 0x80 + v % 64 ∷ []
+    else if leb v 0x7FF then (0xC0 + v / 64) ∷ (0x80 + v % 64) ∷ []
+    else if leb v 0xFFFF then (0xE0 + v / 4096) ∷ (0x80 + v / 64 % 64) ∷ (0x80 + v % 64) ∷ []
+    else (0xF0 + v / 262144) ∷ (0x80 + v / 4096 % 64) ∷ (0x80 + v / 64 % 64) ∷ (0x80 + v % 64) ∷ []
 
 -- the bytes of a text
 unfoldable pub encodes : List ℕ → List ℕ
