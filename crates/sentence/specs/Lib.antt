@@ -1,0 +1,4 @@
+pub mod Sentence
+pub mod Reading
+pub mod Writing
+pub mod Worked

@@ -1,0 +1,1 @@
+// The definitions of sentences and annotated lines; there is no code here.
