@@ -1,2 +1,4 @@
 pub mod Tests
 pub mod Tail
+pub mod Facts
+pub mod Sized

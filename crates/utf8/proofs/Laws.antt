@@ -1,15 +1,15 @@
 -- What the loops over `decode` need of the specification. Assumes nothing.
-use Prim.Native.Nat.{ℕ, zero, suc, pred, _+_, _≤_, _<_}
+use Prim.Native.Nat.{ℕ, suc, _+_, _≤_, _<_}
 use native.Mathlib.Omega.{arith}
-use native.Mathlib.Nat.{add-suc}
-use mathlib.Core.Path.{_≡_, refl, sym, ap, subst, _∙_}
+use mathlib.Core.Path.{_≡_, sym, ap, _∙_}
 use mathlib.Core.List.{List, [], _∷_}
-use Rattle.laws.specs.If.{if-both}
 use lib.ListN.{length, getD, drop, drop-of-length-le}
 use lib.Seq.{drop-cons, getD-drop, drop-drop}
 use Rattle.utf8.specs.declared.Decoded.{Decoded}
 use Rattle.utf8.specs.declared.Decoded.the-variants.{Char, Bad, End}
-use Rattle.utf8.specs.Utf8.{utf8-1, utf8-2, utf8-3, utf8-4, charOf, charAt, decodeAt, walk, chars, wholes, validPrefix}
+use Rattle.utf8.specs.Utf8.{charOf, charAt, decodeAt, chars, wholes, validPrefix}
+use Rattle.utf8.proofs.Codec.{encode-decode, width-small}
+use Rattle.utf8.proofs.Walk.{walk-char, walk-bad, walk-end}
 
 -- ---- what stands at a place, by its bytes
 nth : (s : List ℕ) (at k n : ℕ) → suc at + k ≡ n → getD (drop (suc at) s) k 0 ≡ getD s n 0
@@ -24,26 +24,9 @@ unfolding decodeAt
 decode-out s at h = ap charAt (drop-of-length-le s h)
 
 -- ---- a character's length
-abbrev pub LenOk : Decoded → Type 0
-LenOk (Char v n) = (1 ≤ n) × (n ≤ 4)
-LenOk Bad = Unit {0}
-LenOk End = Unit {0}
-
-charOf-len : (a b c d : ℕ) → LenOk (charOf a b c d)
-unfolding charOf
-charOf-len a b c d =
-    if-both LenOk (utf8-1 a) _ _ (omega arith)
-    (if-both LenOk (utf8-2 a b) _ _ (omega arith)
-    (if-both LenOk (utf8-3 a b c) _ _ (omega arith)
-    (if-both LenOk (utf8-4 a b c d) _ _ (omega arith) tt)))
-
-charAt-len : (s : List ℕ) → LenOk (charAt s)
-charAt-len [] = tt
-charAt-len (a ∷ s) = charOf-len a (getD s 0 0) (getD s 1 0) (getD s 2 0)
-
 pub len-ok : (s : List ℕ) (at v n : ℕ) → decodeAt s at ≡ Char v n → (1 ≤ n) × (n ≤ 4)
 unfolding decodeAt
-len-ok s at v n e = subst LenOk e (charAt-len (drop at s))
+len-ok s at v n e = omega (arith, encode-decode (drop at s) v n e .wide, width-small v)
 
 -- the same, with the premises as a caller of `decode` has them
 pub record Sized (n : ℕ) : Type 0 where
@@ -54,23 +37,6 @@ pub len-met : (s : List ℕ) (at v n : ℕ) (d : Decoded) → d ≡ decodeAt s a
 len-met s at v n d p q = let h = len-ok s at v n (sym p ∙ q) in record { some = h .0; few = h .1 }
 
 -- ---- the characters of a text, one at a time
-walk-skip : (k : ℕ) (s : List ℕ) → walk k s ≡ walk 0 (drop k s)
-unfolding walk
-walk-skip zero s = refl
-walk-skip (suc k) [] = refl
-walk-skip (suc k) (b ∷ s) = walk-skip k s
-
-walk-char : (s : List ℕ) (v n : ℕ) → charAt s ≡ Char v n → 1 ≤ n → walk 0 s ≡ Char v n ∷ walk 0 (drop n s)
-unfolding walk
-walk-char [] v n e h = cc
-walk-char (b ∷ s) v zero e h = absurd (omega arith)
-walk-char (b ∷ s) v (suc n) e h = rw (e, walk) (ap (λ (r : List Decoded). Char v (suc n) ∷ r) (walk-skip n s))
-
-walk-bad : (s : List ℕ) → charAt s ≡ Bad → walk 0 s ≡ Bad ∷ []
-unfolding walk
-walk-bad [] e = cc
-walk-bad (b ∷ s) e = rw (e, walk)
-
 pub chars-char : (s : List ℕ) (at v n : ℕ) → decodeAt s at ≡ Char v n → chars (drop at s) ≡ Char v n ∷ chars (drop (at + n) s)
 unfolding decodeAt
 chars-char s at v n e = walk-char (drop at s) v n e (len-ok s at v n e .0) ∙ rw drop-drop
@@ -78,11 +44,6 @@ chars-char s at v n e = walk-char (drop at s) v n e (len-ok s at v n e .0) ∙ r
 pub chars-bad : (s : List ℕ) (at : ℕ) → decodeAt s at ≡ Bad → chars (drop at s) ≡ Bad ∷ []
 unfolding decodeAt
 chars-bad s at e = walk-bad (drop at s) e
-
-walk-end : (s : List ℕ) → charAt s ≡ End → walk 0 s ≡ []
-unfolding walk
-walk-end [] e = refl
-walk-end (b ∷ s) e = rw (e, walk)
 
 pub chars-end : (s : List ℕ) (at : ℕ) → decodeAt s at ≡ End → chars (drop at s) ≡ []
 unfolding decodeAt
