@@ -1,4 +1,5 @@
 pub mod Sentence
 pub mod Reading
 pub mod Writing
+pub mod Refusals
 pub mod Worked

@@ -94,14 +94,18 @@ pub data Run : Type 0 where
   whole : List Act → Run
   stopped : ℕ → ℕ → Run
 
+-- the number of a line that ends behind a boundary
+unfoldable pub unfinished : Form → ℕ
+unfinished raw = 3
+unfinished tokenized = 8
+unfinished partial = 10
+
 -- at the line's end; a lone backslash is dropped
 unfoldable pub ending : Form → Place → Run
 ending f start = stopped 3 0
 ending f behind = whole []
 ending f inTag = whole []
-ending tokenized (gap m) = stopped 8 0
-ending partial (gap m) = stopped 10 0
-ending raw (gap m) = stopped 10 0
+ending f (gap m) = stopped (unfinished f) 0
 
 unfoldable pub finish : Form → State → Run
 finish f (at p) = ending f p

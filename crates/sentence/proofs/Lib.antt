@@ -1,0 +1,4 @@
+pub mod Runs
+pub mod Trips
+pub mod Shape
+pub mod Demand3
