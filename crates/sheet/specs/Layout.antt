@@ -1,0 +1,145 @@
+-- How a sentence lies in eight lent buffers, and which sentence a record and buffers hold.
+use Prim.Native.Nat.{ℕ, zero, suc, _+_, _-_, _≤_}
+use mathlib.Core.Path.{_≡_}
+use mathlib.Core.Bool.{Bool, true, false, _&&_}
+use mathlib.Core.List.{List, [], _∷_, _++_, map}
+use lib.Dec.{eqb, leb}
+use lib.ListN.{length, take, drop, getD}
+use Rattle.laws.specs.Put.{over}
+use Rattle.utf8.specs.Utf8.{scalars, encodes, size}
+use Rattle.sentence.specs.Sentence.{Tag, Mark, none, word, unknown, code, Cells, final, cell, Sentence, text, marks, rows, count, types, charPositions, bytePositions, listed, tagBytes, Formed}
+use Rattle.sheet.specs.declared.Record.{Record}
+
+-- the contents of the eight buffers
+pub record Buffers : Type 0 where
+  pub text-buf : List ℕ
+  pub types-buf : List ℕ
+  pub boundaries-buf : List ℕ
+  pub char-pos-buf : List ℕ
+  pub byte-pos-buf : List ℕ
+  pub row-ends-buf : List ℕ
+  pub tag-ends-buf : List ℕ
+  pub tag-bytes-buf : List ℕ
+
+abbrev pub buffers : List ℕ → List ℕ → List ℕ → List ℕ → List ℕ → List ℕ → List ℕ → List ℕ → Buffers
+buffers t y m c b r e g = record {
+  text-buf = t;
+  types-buf = y;
+  boundaries-buf = m;
+  char-pos-buf = c;
+  byte-pos-buf = b;
+  row-ends-buf = r;
+  tag-ends-buf = e;
+  tag-bytes-buf = g;
+}
+
+-- N, B, columns, K and G
+unfoldable pub recordOf : Sentence → Record
+recordOf s = record { n = count s; b = size (text s); columns = s .columns; k = listed (rows s); g = tagBytes (rows s) }
+
+-- all listed tags, row after row
+unfoldable pub tagsOf : List (List Tag) → List Tag
+tagsOf [] = []
+tagsOf (r ∷ rs) = r ++ tagsOf rs
+
+-- where each row ends among the listed tags, after k of them
+unfoldable pub rowEnds : ℕ → List (List Tag) → List ℕ
+rowEnds k [] = []
+rowEnds k (r ∷ rs) = (k + length r) ∷ rowEnds (k + length r) rs
+
+-- where each tag ends among the tag bytes, after g of them
+unfoldable pub tagEnds : ℕ → List Tag → List ℕ
+tagEnds g [] = []
+tagEnds g (t ∷ ts) = (g + size t) ∷ tagEnds (g + size t) ts
+
+-- the bytes of tags, one after another
+unfoldable pub bytesOf : List Tag → List ℕ
+bytesOf [] = []
+bytesOf (t ∷ ts) = encodes t ++ bytesOf ts
+
+-- what each buffer starts with
+unfoldable pub lay : Sentence → Buffers
+lay s = record {
+  text-buf = encodes (text s);
+  types-buf = types (text s);
+  boundaries-buf = map code (marks s);
+  char-pos-buf = charPositions (text s);
+  byte-pos-buf = bytePositions (text s);
+  row-ends-buf = rowEnds 0 (rows s);
+  tag-ends-buf = tagEnds 0 (tagsOf (rows s));
+  tag-bytes-buf = bytesOf (tagsOf (rows s));
+}
+
+-- each buffer with the part of a sentence at its front, and then what it held
+unfoldable pub laid : Sentence → Buffers → Buffers
+laid s d = record {
+  text-buf = over (lay s .text-buf) (d .text-buf);
+  types-buf = over (lay s .types-buf) (d .types-buf);
+  boundaries-buf = over (lay s .boundaries-buf) (d .boundaries-buf);
+  char-pos-buf = over (lay s .char-pos-buf) (d .char-pos-buf);
+  byte-pos-buf = over (lay s .byte-pos-buf) (d .byte-pos-buf);
+  row-ends-buf = over (lay s .row-ends-buf) (d .row-ends-buf);
+  tag-ends-buf = over (lay s .tag-ends-buf) (d .tag-ends-buf);
+  tag-bytes-buf = over (lay s .tag-bytes-buf) (d .tag-bytes-buf);
+}
+
+-- the room needed: text B, types N, boundaries N-1, char positions N+1, byte positions B+1, row ends N, tag ends K, tag bytes G
+unfoldable pub roomFor : Record → Buffers → Bool
+roomFor r d =
+    leb (r .b) (length (d .text-buf))
+    && leb (r .n) (length (d .types-buf))
+    && leb (r .n - 1) (length (d .boundaries-buf))
+    && leb (r .n + 1) (length (d .char-pos-buf))
+    && leb (r .b + 1) (length (d .byte-pos-buf))
+    && leb (r .n) (length (d .row-ends-buf))
+    && leb (r .k) (length (d .tag-ends-buf))
+    && leb (r .g) (length (d .tag-bytes-buf))
+
+-- a buffer starts with a part
+abbrev pub Front : List ℕ → List ℕ → Type 0
+Front part d = take (length part) d ≡ part
+
+-- the record and the buffers are the sentence as laid out, within the limits; memory past the needed room is free
+pub record Holds (r : Record) (d : Buffers) (s : Sentence) : Type 0 where
+  pub formed : Formed s
+  pub record-is : r ≡ recordOf s
+  pub text-at : Front (lay s .text-buf) (d .text-buf)
+  pub types-at : Front (lay s .types-buf) (d .types-buf)
+  pub boundaries-at : Front (lay s .boundaries-buf) (d .boundaries-buf)
+  pub char-pos-at : Front (lay s .char-pos-buf) (d .char-pos-buf)
+  pub byte-pos-at : Front (lay s .byte-pos-buf) (d .byte-pos-buf)
+  pub row-ends-at : Front (lay s .row-ends-buf) (d .row-ends-buf)
+  pub tag-ends-at : Front (lay s .tag-ends-buf) (d .tag-ends-buf)
+  pub tag-bytes-at : Front (lay s .tag-bytes-buf) (d .tag-bytes-buf)
+
+-- ---- the sentence that a record and buffers spell
+-- a list cut at ends that are counted from g on
+unfoldable pub pieces : {A : Type 0} → ℕ → List ℕ → List A → List (List A)
+pieces g [] d = []
+pieces g (e ∷ es) d = take (e - g) d ∷ pieces e es (drop (e - g) d)
+
+-- the boundary of a number
+unfoldable pub markOf : ℕ → Mark
+markOf zero = none
+markOf (suc zero) = word
+markOf (suc (suc n)) = unknown
+
+-- characters with their rows and the boundaries between them
+unfoldable pub link : List ℕ → List Mark → List (List Tag) → Cells
+link [] ms rs = final 0 []
+link (c ∷ []) ms rs = final c (getD rs 0 [])
+link (c ∷ d ∷ cs) ms rs = cell c (getD rs 0 []) (getD ms 0 none) (link (d ∷ cs) (drop 1 ms) (drop 1 rs))
+
+unfoldable pub spell : Record → Buffers → Sentence
+spell r d = record {
+  cells =
+      link
+      (scalars (take (r .b) (d .text-buf)))
+      (map markOf (take (r .n - 1) (d .boundaries-buf)))
+      (pieces 0 (take (r .n) (d .row-ends-buf)) (map scalars (pieces 0 (take (r .k) (d .tag-ends-buf)) (d .tag-bytes-buf))));
+  columns = r .columns;
+}
+
+-- they are a sheet: the sentence that they spell is laid out in them
+abbrev pub Sheet : Record → Buffers → Type 0
+Sheet r d = Holds r d (spell r d)
