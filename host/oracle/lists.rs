@@ -31,7 +31,6 @@ pub fn all() -> [(&'static str, Vec<String>); 4] {
 fn long(form: char, parts: &[(&str, usize)]) -> String {
     let asked = format!("{form} {}", list(parts.iter().map(|(part, count)| format!("{}*{count}", hex(part.as_bytes()))), ","));
     let line: String = parts.iter().map(|(part, count)| part.repeat(*count)).collect();
-    assert!(line.len() <= 4096);
     match outcome(form, line.as_bytes()) {
         Read::Accepted(answer) => {
             let sentence = read(form, &line).unwrap();

@@ -100,6 +100,12 @@ fn every_refusal_of_the_original_is_met() {
 }
 
 #[test]
+fn no_line_of_the_answers_is_long() {
+    assert!(cases::answers().iter().all(|(_, line)| line.len() <= 256));
+    assert!(cases::long().iter().all(|(_, parts)| parts.iter().map(|(part, count)| part.len() * count).sum::<usize>() <= 4096));
+}
+
+#[test]
 fn every_recorded_line_keeps_to_the_format() {
     for (name, lines) in lists::all() {
         for line in lines {
