@@ -32,10 +32,10 @@ fn put(all: &mut Vec<Question>, forms: &[char], line: &[u8]) {
 /// Lines that document 01 names, and others of their kind.
 fn named(all: &mut Vec<Question>) {
     for line in [
-        "aあ", "", "a\\", "\\", "a\\-b", "a /b", "a ", "a-", "a|b c|d", "a//x b", "a/-b", "a/x-b", "a \\", "ab", "a/x b", "a-b|c", "a b",
-        "a  b", "a/", "a", "a//", "a/ b", "a\\ b", "a\\/b", "a\\\\b", "\\ ", "\\/", "\\\\", "a/\\/", "a/\\ /\\\\", "a/b/", "a//b", "a/b\\",
-        "a/\\", "a-b/x|c", "a/x-b/y|c/z", "a/x b/y", " - - ", "/-\\| ", "a/\\-\\|\\ \\/\\\\-b", "a|b|c", "a b c", "a-b c-d|e", "a b|c d",
-        "漢-字/名|か-な", "漢字/名詞/カンジ と/助詞 かな/名詞//x", "１２Ａｂ", "ｱﾞ・ー", "々〇ゝ", "\u{feff}a", "a\nb", "a\r\tb", "a\0", "\\\0", "a/\0", "a\\\0",
+        "aあ", "", "a\\", "\\", "a\\-b", "a /b", "a ", "a-", "a|b c|d", "a//x b", "a/-b", "a/x-b", "a \\", "ab", "a/x b", "a-b|c", "a b", "a  b",
+        "a/", "a", "a//", "a/ b", "a\\ b", "a\\/b", "a\\\\b", "\\ ", "\\/", "\\\\", "a/\\/", "a/\\ /\\\\", "a/b/", "a//b", "a/b\\", "a/\\",
+        "a-b/x|c", "a/x-b/y|c/z", "a/x b/y", " - - ", "/-\\| ", "a/\\-\\|\\ \\/\\\\-b", "a|b|c", "a b c", "a-b c-d|e", "a b|c d", "漢-字/名|か-な",
+        "漢字/名詞/カンジ と/助詞 かな/名詞//x", "１２Ａｂ", "ｱﾞ・ー", "々〇ゝ", "\u{feff}a", "a\nb", "a\r\tb", "a\0", "\\\0", "a/\0", "a\\\0",
         "a/\\\0", "a\u{300}", "😀-😀|😀", "😀/😀 é/é", "\u{10ffff}|\u{e000} \u{d7ff}",
     ] {
         put(all, &FORMS, line.as_bytes());
@@ -70,9 +70,24 @@ fn short(all: &mut Vec<Question>) {
 /// The first and the last character of each range of types, with the one before and the one after.
 fn type_edges(all: &mut Vec<Question>) {
     let ranges = [
-        (0x30, 0x39), (0x41, 0x5a), (0x61, 0x7a), (0x3040, 0x3096), (0x30a0, 0x30fa), (0x30fc, 0x30ff), (0x3400, 0x4dbf), (0x4e00, 0x9fff),
-        (0xf900, 0xfaff), (0xff10, 0xff19), (0xff21, 0xff3a), (0xff41, 0xff5a), (0xff66, 0xff9f), (0x20000, 0x2a6df), (0x2a700, 0x2b73f),
-        (0x2b740, 0x2b81f), (0x2b820, 0x2ceaf), (0x2f800, 0x2fa1f),
+        (0x30, 0x39),
+        (0x41, 0x5a),
+        (0x61, 0x7a),
+        (0x3040, 0x3096),
+        (0x30a0, 0x30fa),
+        (0x30fc, 0x30ff),
+        (0x3400, 0x4dbf),
+        (0x4e00, 0x9fff),
+        (0xf900, 0xfaff),
+        (0xff10, 0xff19),
+        (0xff21, 0xff3a),
+        (0xff41, 0xff5a),
+        (0xff66, 0xff9f),
+        (0x20000, 0x2a6df),
+        (0x2a700, 0x2b73f),
+        (0x2b740, 0x2b81f),
+        (0x2b820, 0x2ceaf),
+        (0x2f800, 0x2fa1f),
     ];
     for (first, last) in ranges {
         for number in [first - 1, first, last, last + 1] {
@@ -85,9 +100,7 @@ fn type_edges(all: &mut Vec<Question>) {
 
 /// Sequences of bytes around every bound of RFC 3629, alone and inside a line.
 fn utf8_edges(all: &mut Vec<Question>) {
-    let leads = [
-        0x7f, 0x80, 0xbf, 0xc0, 0xc1, 0xc2, 0xdf, 0xe0, 0xe1, 0xec, 0xed, 0xee, 0xef, 0xf0, 0xf1, 0xf3, 0xf4, 0xf5, 0xf8, 0xff,
-    ];
+    let leads = [0x7f, 0x80, 0xbf, 0xc0, 0xc1, 0xc2, 0xdf, 0xe0, 0xe1, 0xec, 0xed, 0xee, 0xef, 0xf0, 0xf1, 0xf3, 0xf4, 0xf5, 0xf8, 0xff];
     let seconds = [0x41, 0x7f, 0x80, 0x8f, 0x90, 0x9f, 0xa0, 0xbf, 0xc0];
     let thirds = [0x41, 0x80, 0xbf, 0xc0];
     for lead in leads {
@@ -294,8 +307,16 @@ pub fn acts() -> Vec<(char, String, Act)> {
     let mut all = vec![];
     steps(&mut all);
     let lines = [
-        ('R', "aあ𠀀"), ('R', "a"), ('T', "a"), ('T', "a/x"), ('T', "ab/x あ//y 𠀀"), ('T', "a\\ b/ c"), ('P', "a/x-b|c d"), ('P', "a-b/x/y|あ c/z"),
-        ('P', "あ"), ('P', " /x|/-\\"),
+        ('R', "aあ𠀀"),
+        ('R', "a"),
+        ('T', "a"),
+        ('T', "a/x"),
+        ('T', "ab/x あ//y 𠀀"),
+        ('T', "a\\ b/ c"),
+        ('P', "a/x-b|c d"),
+        ('P', "a-b/x/y|あ c/z"),
+        ('P', "あ"),
+        ('P', " /x|/-\\"),
     ];
     for (form, line) in lines {
         let boundaries = read(form, line).unwrap().boundaries().len();

@@ -69,14 +69,8 @@ fn updates_answer_as_readers_and_a_refused_one_leaves_a_blank() {
 
 #[test]
 fn acts_do_what_document_01_says() {
-    assert_eq!(
-        acts::recorded('P', "a/x-b", &Act::Scores(vec![0])),
-        "S P 612f782d62 0 = 6162 22 0 0,1,2 0,1,2 0 . 0-2 6162 612d62"
-    );
-    assert_eq!(
-        acts::recorded('P', "a/x-b", &Act::Scores(vec![1])),
-        "S P 612f782d62 1 = 6162 22 1 0,1,2 0,1,2 0 . 0-1,1-2 612062 617c62"
-    );
+    assert_eq!(acts::recorded('P', "a/x-b", &Act::Scores(vec![0])), "S P 612f782d62 0 = 6162 22 0 0,1,2 0,1,2 0 . 0-2 6162 612d62");
+    assert_eq!(acts::recorded('P', "a/x-b", &Act::Scores(vec![1])), "S P 612f782d62 1 = 6162 22 1 0,1,2 0,1,2 0 . 0-1,1-2 612062 617c62");
     assert_eq!(acts::recorded('T', "a/x", &Act::Columns(2)), "C T 612f78 2 = 61 2 . 0,1 0,1 2 -,- 0-1 612f2f 612f2f");
     assert_eq!(
         acts::recorded('R', "ab", &Act::Boundary(0, CharacterBoundary::WordBoundary)),
