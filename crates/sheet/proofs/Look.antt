@@ -51,6 +51,10 @@ module _ {A B : Type 0} (F : List A → List B) (n : List A → ℕ) (joins : (u
   rest : (l : List A) (b : ℕ) → drop (n (take b l)) (F l) ≡ F (drop b l)
   rest l b = ap (λ (m : List A). drop (n (take b l)) (F m)) (sym (take-append-drop b l)) ∙ rw (joins (take b l) (drop b l)) (drop-at (F (take b l)) (F (drop b l)) (n (take b l)) (long (take b l)))
 
+  -- all before the b-th
+  before : (l : List A) (b : ℕ) → take (n (take b l)) (F l) ≡ F (take b l)
+  before l b = ap (λ (m : List A). take (n (take b l)) (F m)) (sym (take-append-drop b l)) ∙ rw (joins (take b l) (drop b l)) (take-at (F (take b l)) (F (drop b l)) (n (take b l)) (long (take b l)))
+
   within : (l : List A) (i : ℕ) → n (take i l) ≤ n l
   within l i = omega (arith, sum (take i l) (drop i l), ap n (take-append-drop i l))
 
@@ -134,6 +138,20 @@ tag-among rs i c h k =
     sym (getD-drop (listed (take i rs)) (tagsOf rs) c [])
     ∙ sym (getD-take (length (getD rs i [])) (drop (listed (take i rs)) (tagsOf rs)) c [] k)
     ∙ ap (λ (l : List Tag). getD l c []) (row-among rs i h)
+
+-- the bytes of the tags before the c-th of the i-th row: those of the rows before, and those before it in its row
+pub bytes-among : (rs : List (List Tag)) (i c : ℕ) → i < length rs → c ≤ length (getD rs i [])
+    → rowBytes (take (listed (take i rs) + c) (tagsOf rs)) ≡ tagBytes (take i rs) + rowBytes (take c (getD rs i []))
+bytes-among rs i c h k =
+    let e = row-among rs i h in
+    let f : take c (drop (listed (take i rs)) (tagsOf rs)) ≡ take c (getD rs i []) = rw e at (sym (take-take c (length (getD rs i [])) (drop (listed (take i rs)) (tagsOf rs)) k)) in
+    rw (
+      take-add (listed (take i rs)) c (tagsOf rs),
+      before tagsOf listed tags-joined length-tagsOf rs i,
+      f,
+      sum bytesOf rowBytes bytes-joined length-bytesOf (tagsOf (take i rs)) (take c (getD rs i [])),
+      all-tag-bytes (take i rs),
+    )
 
 -- ---- the four lists of positions and ends
 pub length-starts : (at : ℕ) (cs : List ℕ) → length (starts at cs) ≡ length cs + 1
