@@ -1,8 +1,8 @@
 -- The one-blank sentence: its room, and what its stores make of the buffers. Assumes nothing.
-use Prim.Native.Nat.{ℕ, _≤_}
-use mathlib.Core.Path.{_≡_, refl, sym, ap, _∙_}
+use Prim.Native.Nat.{_≤_}
+use mathlib.Core.Path.{_≡_, refl, sym, _∙_}
 use mathlib.Core.Bool.{Bool, true, false, not, _&&_, and-true}
-use mathlib.Core.List.{List, [], _∷_}
+use mathlib.Core.List.{[], _∷_}
 use native.Mathlib.Omega.{arith}
 use borrow.Author.Tests.{not-true, not-false}
 use lib.Dec.{leb, leb·zero}
@@ -16,9 +16,8 @@ use Rattle.sentence.specs.Sentence.{textOf, marksOf, rowsOf, starts, numbers, l
 use Rattle.sentence.specs.Writing.{blank}
 use Rattle.sentence.specs.Refusals.{verdict}
 use Rattle.sheet.specs.Layout.{Buffers, buffers, recordOf, tagsOf, rowEnds, tagEnds, bytesOf, lay, laid, roomFor}
-use Rattle.sheet.specs.declared.Answer.{Answer}
 use Rattle.sheet.specs.declared.Answer.the-variants as answer
-use Rattle.changes.specs.Changes.{Lays, DefaultSet, defaultAnswer}
+use Rattle.changes.specs.Changes.{DefaultSet, defaultAnswer}
 
 -- the room, by the lengths that the code tests
 abbrev pub fits : Buffers → Bool

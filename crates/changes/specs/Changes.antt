@@ -1,7 +1,7 @@
 -- What the calls that change a sentence in its buffers answer, and what they leave.
 use Prim.Native.Nat.{ℕ}
 use mathlib.Core.Path.{_≡_}
-use mathlib.Core.Bool.{Bool, true, false, not}
+use mathlib.Core.Bool.{not}
 use mathlib.Core.List.{List, [], _∷_}
 use Rattle.sentence.specs.Sentence.{Sentence}
 use Rattle.sentence.specs.Writing.{blank}
