@@ -1,13 +1,13 @@
 -- What the look-ups' proofs need of a sheet. Assumes nothing.
 use Prim.Native.Nat.{ℕ, zero, suc, _+_, _-_, _≤_, _<_}
 use native.Mathlib.Omega.{arith}
-use mathlib.Core.Path.{_≡_, refl, sym, ap, _∙_}
-use mathlib.Core.Bool.{Bool, true, false, not, _&&_, _||_}
+use mathlib.Core.Path.{_≡_, refl, sym, _∙_}
+use mathlib.Core.Bool.{true, false, _&&_}
 use mathlib.Core.List.{List, [], _∷_}
 use mathlib.Core.Logic.{inr}
 use native.Mathlib.Numerals.{add-one}
 use borrow.Author.Tests.{eq-eqb, ne-eqb, le-ltb}
-use lib.Dec.{leb, eqb}
+use lib.Dec.{leb}
 use lib.ListN.{length, getD, take, drop, List·getD-eq-default}
 use Rattle.laws.specs.If.{if_then_else_, if-true, if-false}
 use Rattle.laws.proofs.Facts.{reads, or-is}
@@ -16,12 +16,13 @@ use Rattle.utf8.proofs.Codec.{width-small}
 use Rattle.sentence.specs.declared.Refusal.{Refusal}
 use Rattle.sentence.specs.Sentence.{Tag, Sentence, text, rows, charPositions, bytePositions, listed, rowBytes}
 use Rattle.sentence.specs.Refusals.{verdict}
-use Rattle.sheet.specs.Layout.{Buffers, lay, tagsOf, Holds}
+use Rattle.sheet.specs.Layout.{Buffers, tagsOf, Holds}
 use Rattle.sheet.specs.declared.Record.{Record}
 use Rattle.sheet.specs.declared.Number.the-variants as number
 use Rattle.sheet.specs.declared.Part.{Part}
 use Rattle.sheet.specs.declared.Part.the-variants as part
-use Rattle.sheet.proofs.Look.{front-at, bytes-among, length-starts, start-is, length-numbers, bounds, char-pos-is, byte-pos-is, byte-pos-small, row-end-is, tag-end-is, row-next, row-inside, tag-in-row, tag-next}
+use Rattle.sheet.proofs.Held.{length-starts, byte-pos-held}
+use Rattle.sheet.proofs.Look.{part-at, bytes-among, start-is, bounds, char-pos-is, byte-pos-is, byte-pos-small, row-end-is, tag-end-is, row-next, row-inside, tag-in-row, tag-next}
 use Rattle.lookups.specs.Answers.{startAt, found, strToCharPos, cellStart, tagPart, cell, bytesOf, edge}
 
 -- ---- the bytes of a part
@@ -86,8 +87,7 @@ module _ {r : Record} {d : Buffers} {s : Sentence} (h : Holds r d s) where
 
   -- the number at a byte
   number-at : (p : ℕ) → p ≤ r .b → getD (d .byte-pos-buf) p 0 ≡ getD (bytePositions (text s)) p 0
-  unfolding lay
-  number-at p k = front-at _ _ p (h .byte-pos-at) (omega (arith, bounds h, length-numbers 0 (text s)))
+  number-at p k = part-at (byte-pos-held h) p (omega arith)
 
   -- a byte position is a character's start where that character starts there
   pub pos-found : (p : ℕ) → p ≤ r .b → getD (d .char-pos-buf) (getD (d .byte-pos-buf) p 0) 0 ≡ p

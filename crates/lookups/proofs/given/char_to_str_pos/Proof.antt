@@ -1,5 +1,4 @@
 -- `lookups::given::char_to_str_pos` meets its contract. Assumes nothing.
-use borrow.Author.Needs.{needs}
 use native.Mathlib.Omega.{arith}
 use Rattle.sheet.proofs.Look.{bounds}
 use Rattle.lookups.proofs.Laws.{pos-at}
