@@ -1,2 +1,4 @@
 pub mod Blank
 pub mod Once
+pub mod Changed
+pub mod Kept

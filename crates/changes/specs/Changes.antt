@@ -27,6 +27,10 @@ pub record Lays (a : Answer) (s : Sentence) (d : Buffers) (r : Answer) (e : Buff
   pub tag-ends-is : e .tag-ends-buf ≡ after r (laid s d .tag-ends-buf) (d .tag-ends-buf)
   pub tag-bytes-is : e .tag-bytes-buf ≡ after r (laid s d .tag-bytes-buf) (d .tag-bytes-buf)
 
+-- the same of a call that always lays s down
+abbrev pub Laid : Sentence → Buffers → Answer → Buffers → Type 0
+Laid s d r e = Lays (answer.Sentence (recordOf s)) s d r e
+
 -- the one-blank sentence, or 15 where a buffer is below its room
 unfoldable pub defaultAnswer : Buffers → Answer
 defaultAnswer d = verdict answer.Refused (check (not (roomFor (recordOf blank) d)) 15 0 ∷ []) (answer.Sentence (recordOf blank))
