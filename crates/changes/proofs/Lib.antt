@@ -2,3 +2,4 @@ pub mod Blank
 pub mod Once
 pub mod Changed
 pub mod Kept
+pub mod After
