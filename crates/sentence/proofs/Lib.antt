@@ -2,3 +2,4 @@ pub mod Runs
 pub mod Trips
 pub mod Shape
 pub mod Demand3
+pub mod Tokens

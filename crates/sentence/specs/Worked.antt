@@ -6,7 +6,7 @@ use mathlib.Core.List.{List, [], _∷_, _++_, map}
 use lib.IntN.{ℤ, pos, negsuc}
 use Rattle.laws.specs.If.{if_then_else_}
 use Rattle.utf8.specs.Utf8.{utf8-2, utf8-3, utf8-4, charOf, walk, wholes, values, width, encode, encodes, size}
-use Rattle.types.specs.TypeOf.{ranges, typeOf}
+use Rattle.types.specs.TypeOf.{find, ranges, typeOf}
 use Rattle.sentence.specs.Sentence.{Tag, Mark, none, word, unknown, code, Cells, final, cell, Sentence, textOf, marksOf, rowsOf, text, marks, rows, count, types, starts, numbers, charPositions, bytePositions, onto, cut, pad}
 use Rattle.sentence.specs.Reading.{Form, raw, tokenized, partial, kind, ordinary, inside, opening, step, advance, unfinished, ending, finish, push, follow, run, before, add, gather, Result, sentence, refused, built, placed, read}
 use Rattle.sentence.specs.Writing.{Token, token, tokens, tokensFrom, Served, serves, done, first, nextToken, surface, escapeAs, escape, writeTags, writeToken, joined, sign, shown, writePartial, line, written, key, bare, marked, resetTags, setMark, setBoundary, decision, scored, blank}
@@ -154,5 +154,5 @@ given c = answer (c .ask) (read (c .form) (c .bytes))
 
 -- every worked line has its answer
 pub worked-lines : map given worked ≡ map (λ (c : Case). c .wanted) worked
-unfolding worked given told answer spans servedAs tagsAs if_then_else_ utf8-2 utf8-3 utf8-4 charOf walk wholes values width encode encodes size ranges typeOf code textOf marksOf rowsOf starts numbers onto cut pad kind ordinary inside opening step advance unfinished ending finish push follow run before add gather built placed read tokens first nextToken escapeAs escape writeTags writeToken joined sign shown writePartial line bare marked resetTags setMark setBoundary decision scored blank
+unfolding worked given told answer spans servedAs tagsAs if_then_else_ utf8-2 utf8-3 utf8-4 charOf walk wholes values width encode encodes size find ranges typeOf code textOf marksOf rowsOf starts numbers onto cut pad kind ordinary inside opening step advance unfinished ending finish push follow run before add gather built placed read tokens first nextToken escapeAs escape writeTags writeToken joined sign shown writePartial line bare marked resetTags setMark setBoundary decision scored blank
 worked-lines = refl

@@ -9,14 +9,15 @@ use mathlib.Core.List.{List, [], _∷_, _++_, append-nil, append-assoc}
 use borrow.Author.Tests.{le-leb, lt-leb, leb-true, leb-false}
 use lib.Dec.{leb}
 use lib.ListN.{length, getD, take, drop, length-append, length-take, length-drop, List·getD-eq-default, take-append-drop}
-use lib.Seq.{take-suc, take-add, take-all, drop-at, length-take-le}
+use lib.Seq.{take-suc, take-add, take-all, take-at, take-take, drop-at, length-take-le}
 use Rattle.laws.specs.If.{if_then_else_, if-both, if-cases, if-map}
 use Rattle.laws.specs.All.{All}
 use Rattle.laws.proofs.Facts.{reads, or-is, untrue}
 use Rattle.laws.proofs.Sized.{by-size}
 use Rattle.utf8.specs.declared.Decoded.{Decoded}
 use Rattle.utf8.specs.declared.Decoded.the-variants.{Char, Bad, End}
-use Rattle.utf8.specs.Utf8.{utf8-1, utf8-2, utf8-3, utf8-4, charOf, charAt, walk, chars, wholes, validPrefix, values, scalars, scalar, width, encode, encodes, size}
+use Rattle.utf8.specs.declared.Encoded.{Encoded}
+use Rattle.utf8.specs.Utf8.{utf8-1, utf8-2, utf8-3, utf8-4, charOf, charAt, walk, chars, wholes, validPrefix, values, scalars, scalar, width, encode, encodes, size, filled, encodedOf}
 use Rattle.utf8.proofs.Walk.{walk-char, walk-bad, walk-end}
 
 pub length-encode : (v : ℕ) → length (encode v) ≡ width v
@@ -41,6 +42,9 @@ of-gap v h = elim (decLe v 0xD7FF) [ yes k ↦ simp or-is (inl (simp reads (omeg
 no-gap : (v : ℕ) → scalar v ≡ true → gap v ≡ 0
 unfolding scalar
 no-gap v = simp reads (omega arith)
+
+pub scalar-small : (v : ℕ) → scalar v ≡ true → v ≤ 0x10FFFF
+scalar-small v h = omega (arith, no-gap)
 
 -- ---- the rows of section 3's table: the bytes of v, and its range
 record Two (a b v : ℕ) : Type 0 where
@@ -219,6 +223,20 @@ read (a ∷ s) =
 -- encoding what was decoded gives the bytes back
 pub encode-decode : (s : List ℕ) (v n : ℕ) → charAt s ≡ Char v n → Coded s v n
 encode-decode s v n e = subst (Read s) e (read s)
+
+-- what `encode` answers of a scalar value holds its encoding
+pub record Spelt (v : ℕ) (r : Encoded) : Type 0 where
+  pub len-is : r .len ≡ width v
+  pub bytes-are : take (width v) (r .bytes) ≡ encode v
+
+pub spelt : (v : ℕ) → scalar v ≡ true → Spelt v (encodedOf v)
+unfolding encodedOf filled if_then_else_
+spelt v h =
+    rw h
+    (record {
+      len-is = length-encode v;
+      bytes-are = take-take (width v) 4 _ (width-small v .1) ∙ take-at (encode v) _ (width v) (length-encode v);
+    })
 
 -- ---- texts
 pub length-encodes : (vs : List ℕ) → length (encodes vs) ≡ size vs

@@ -3,10 +3,11 @@ use Prim.Native.Nat.{ℕ, zero, suc, pred, _+_, _*_, _/_, _%_}
 use mathlib.Core.List.{List, [], _∷_, _++_}
 use mathlib.Core.Bool.{Bool, true, false, _&&_, _||_}
 use Rattle.laws.specs.If.{if_then_else_}
-use lib.ListN.{getD, drop}
+use lib.ListN.{length, getD, take, drop}
 use lib.Dec.{leb, ltb, eqb}
 use Rattle.utf8.specs.declared.Decoded.{Decoded}
 use Rattle.utf8.specs.declared.Decoded.the-variants.{Char, Bad, End}
+use Rattle.utf8.specs.declared.Encoded.{Encoded}
 
 -- %xLO-HI
 abbrev pub within : ℕ → ℕ → ℕ → Bool
@@ -112,3 +113,11 @@ encodes (v ∷ vs) = encode v ++ encodes vs
 unfoldable pub size : List ℕ → ℕ
 size [] = 0
 size (v ∷ vs) = width v + size vs
+
+-- at most four bytes, and zeros up to four
+unfoldable pub filled : List ℕ → Encoded
+filled bs = record { bytes = take 4 (bs ++ 0 ∷ 0 ∷ 0 ∷ 0 ∷ []); len = length bs }
+
+-- the bytes of a scalar value, and none of what is no scalar value
+unfoldable pub encodedOf : ℕ → Encoded
+encodedOf v = if scalar v then filled (encode v) else filled []

@@ -1,0 +1,42 @@
+#!/usr/bin/env bash
+# The host's checks: a line for each, and 'N passed, M failed' as the last.
+set -u
+. "$(dirname "${BASH_SOURCE[0]}")/tools.sh"
+passed=0 failed=0
+log=$(mktemp)
+trap 'rm -f "$log"' EXIT
+
+# Runs a check by its name; what it printed is shown where it fails.
+check() {
+    local name=$1
+    shift
+    if "$@" >"$log" 2>&1 </dev/null; then
+        passed=$((passed + 1))
+        echo "host: ok: $name"
+    else
+        failed=$((failed + 1))
+        echo "host: FAILED: $name"
+        tail -n 40 "$log" | sed 's/^/    /'
+        return 1
+    fi
+}
+
+# The examples in the original's own comments, run on the build with the stand-ins.
+examples() {
+    VAPORETTO_SRC=$src EXTRACT=$out "$rustdoc" --edition 2021 --test --crate-name vaporetto \
+        --extern vaporetto="$out/libvaporetto.rlib" "$here/original/lib.rs" &&
+        grep -q '^test result: ok\. [1-9]' "$log"
+}
+
+check 'the gate adds up its parts and fails where it should' "$here/gate-test.sh"
+if ! find_src && [ -z "${VAPORETTO_SRC-}" ]; then
+    echo "host: not run, for the original's sources are not at hand (VAPORETTO_SRC): the oracle, its tests, the recorded lists"
+elif ! find_rustc; then
+    echo 'host: not run, for there is no rustc of 1.83 or later, nor could one be installed: the oracle, its tests, the recorded lists'
+elif check 'the original, unchanged, compiles beside the stand-ins' "$here/build.sh"; then
+    check "the original's own examples" examples
+    check "the oracle's tests" "$out/oracle-tests"
+    check 'the recorded lists, made again, show no difference' "$here/record.sh" --check
+fi
+echo "$passed passed, $failed failed"
+[ "$failed" = 0 ]
