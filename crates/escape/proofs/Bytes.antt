@@ -30,7 +30,7 @@ as-plain plain b e = refl
 
 -- the test on a byte finds what has a meaning
 pub is-meant : (p : Bool) (b : ℕ) → (((eqb b 32 || (p && (eqb b 45 || eqb b 124))) || eqb b 47) || eqb b 92) ≡ meant (kind (formOf p) b)
-unfolding formOf kind meant if_then_else_
+unfolding kind meant if_then_else_
 is-meant true b = on (eqb b 32) (eqb b 45) (eqb b 124) (eqb b 47) (eqb b 92)
   where
     on : (u x y v w : Bool) → (((u || (true && (x || y))) || v) || w) ≡ meant (if u then mark unknown else if x then mark none else if y then mark word else if v then slash else if w then back else plain)
@@ -101,6 +101,16 @@ module _ {f : Form} {part : List ℕ} {to : ℕ} {l : List ℕ} {i n : ℕ} (c :
   count-done h k = omega (arith, c .sum, ap length (escape-none f to i l h k))
 
 pub ruleset counts = (count-start, count-meant, count-plain, count-done)
+
+-- what is escaped takes at most two bytes for each
+pub escape-long : (f : Form) (bs : List ℕ) → length (escape f bs) ≤ 2 * length bs
+unfolding escape
+escape-long f [] = omega arith
+escape-long f (b ∷ bs) = on (meant (kind f b)) refl (escape-long f bs)
+  where
+    on : (t : Bool) → meant (kind f b) ≡ t → length (escape f bs) ≤ 2 * length bs → length (escapeAs (kind f b) b ++ escape f bs) ≤ 2 * length (b ∷ bs)
+    on true e h = rw (as-meant (kind f b) b e) (omega arith)
+    on false e h = rw (as-plain (kind f b) b e) (omega arith)
 
 -- one more of a byte that is repeated, and none
 pub repeat-step : (n b : ℕ) → 0 < n → replicate n b ≡ b ∷ replicate (n - 1) b

@@ -3,7 +3,7 @@ use mathlib.Core.Bool.{Bool, true, false}
 use Rattle.sentence.specs.Reading.{Form, tokenized, partial, Kind, mark, slash, back, plain}
 
 -- the partial form, or the tokenized one
-unfoldable pub formOf : Bool → Form
+abbrev pub formOf : Bool → Form
 formOf true = partial
 formOf false = tokenized
 

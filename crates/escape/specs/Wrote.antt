@@ -28,6 +28,16 @@ put-append (v ∷ vs) ws d i =
     let e : i + 1 + length vs ≡ i + suc (length vs) = omega arith in
     put-append vs ws (set d i v) (i + 1) ∙ rw e
 
+-- two parts one after the other
+pub wrote-both : {o₀ vs o₁ ws o₂ : List ℕ} {at i j : ℕ} → Wrote o₀ at vs o₁ i → Wrote o₁ i ws o₂ j → Wrote o₀ at (vs ++ ws) o₂ j
+wrote-both {o₀} {vs} {ws = ws} {at = at} p q = record {
+  bytes = q .bytes ∙ rw (p .bytes, p .end) (sym (put-append vs ws o₀ at));
+  end = omega (arith, p .end, q .end, length-append vs ws);
+}
+
+pub wrote-long : {o₀ vs o : List ℕ} {at r : ℕ} → Wrote o₀ at vs o r → length o ≡ length o₀
+wrote-long {o₀} {vs} {at = at} w = ap length (w .bytes) ∙ length-put vs o₀ at
+
 -- A loop that writes `all` into out₀ from `from` on: the output is d now, and `left` is to be written from `at` on
 pub record Writing (out₀ : List ℕ) (from : ℕ) (all d : List ℕ) (at : ℕ) (left : List ℕ) : Type 0 where
   pub long : length d ≡ length out₀
