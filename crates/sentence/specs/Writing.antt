@@ -96,6 +96,10 @@ line partial s = writePartial (s .columns) (s .cells)
 abbrev pub written : Form → Sentence → List ℕ
 written f s = encodes (line f s)
 
+-- the length that a written line needs
+abbrev pub needed : Form → Sentence → ℕ
+needed f s = length (written f s)
+
 -- the note key, for finding duplicates
 abbrev pub key : Sentence → List ℕ
 key s = written partial s

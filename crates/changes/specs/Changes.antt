@@ -1,0 +1,36 @@
+-- What the calls that change a sentence in its buffers answer, and what they leave.
+use Prim.Native.Nat.{ℕ}
+use mathlib.Core.Path.{_≡_}
+use mathlib.Core.Bool.{not}
+use mathlib.Core.List.{List, [], _∷_}
+use Rattle.sentence.specs.Sentence.{Sentence}
+use Rattle.sentence.specs.Writing.{blank}
+use Rattle.sentence.specs.Refusals.{check, verdict}
+use Rattle.sheet.specs.Layout.{Buffers, recordOf, laid, roomFor}
+use Rattle.sheet.specs.declared.Answer.{Answer}
+use Rattle.sheet.specs.declared.Answer.the-variants as answer
+
+-- a buffer after an answer: what a sentence leaves there, or what it held
+abbrev pub after : Answer → List ℕ → List ℕ → List ℕ
+after (answer.Sentence r) new old = new
+after (answer.Refused x) new old = old
+
+-- the answer r and the buffers e after a call on the buffers d that answers a, and lays s down where that is a sentence
+pub record Lays (a : Answer) (s : Sentence) (d : Buffers) (r : Answer) (e : Buffers) : Type 0 where
+  pub answer-is : r ≡ a
+  pub text-is : e .text-buf ≡ after r (laid s d .text-buf) (d .text-buf)
+  pub types-is : e .types-buf ≡ after r (laid s d .types-buf) (d .types-buf)
+  pub boundaries-is : e .boundaries-buf ≡ after r (laid s d .boundaries-buf) (d .boundaries-buf)
+  pub char-pos-is : e .char-pos-buf ≡ after r (laid s d .char-pos-buf) (d .char-pos-buf)
+  pub byte-pos-is : e .byte-pos-buf ≡ after r (laid s d .byte-pos-buf) (d .byte-pos-buf)
+  pub row-ends-is : e .row-ends-buf ≡ after r (laid s d .row-ends-buf) (d .row-ends-buf)
+  pub tag-ends-is : e .tag-ends-buf ≡ after r (laid s d .tag-ends-buf) (d .tag-ends-buf)
+  pub tag-bytes-is : e .tag-bytes-buf ≡ after r (laid s d .tag-bytes-buf) (d .tag-bytes-buf)
+
+-- the one-blank sentence, or 15 where a buffer is below its room
+unfoldable pub defaultAnswer : Buffers → Answer
+defaultAnswer d = verdict answer.Refused (check (not (roomFor (recordOf blank) d)) 15 0 ∷ []) (answer.Sentence (recordOf blank))
+
+-- what `set_default` answers, and the buffers e that it leaves of d
+abbrev pub DefaultSet : Buffers → Answer → Buffers → Type 0
+DefaultSet d r e = Lays (defaultAnswer d) blank d r e

@@ -1,0 +1,57 @@
+// Changes of a sentence that lies in lent buffers.
+use sentence::Refusal;
+use sheet::Answer;
+use sheet::Record;
+ghost use mathlib.Core.Path.{_≡_};
+ghost use mathlib.Core.Bool.{_&&_};
+ghost use lib.Dec.{leb};
+ghost use Rattle.sheet.specs.Layout.{buffers};
+ghost use Rattle.changes.specs.Changes.{DefaultSet};
+
+// Whether buffers of these lengths have the one-blank sentence's room; boundaries and tags need none.
+fn blank_fits(text: usize, types: usize, char_pos: usize, byte_pos: usize, row_ends: usize) -> bool
+    ensures { λ r. ⌜ r ≡ (leb 1 text && leb 1 types && leb 2 «char_pos» && leb 2 «byte_pos» && leb 1 «row_ends») ⌝ }
+{
+    (1 <= text) & (1 <= types) & (2 <= char_pos) & (2 <= byte_pos) & (1 <= row_ends)
+}
+
+// Lays the one-blank sentence down.
+pub fn set_default(
+    text: &mut [u8],
+    types: &mut [u8],
+    boundaries: &mut [u8],
+    char_pos: &mut [u16],
+    byte_pos: &mut [u16],
+    row_ends: &mut [u16],
+    tag_ends: &mut [u16],
+    tag_bytes: &mut [u8],
+) -> Answer
+    ensures { λ r. ⌜ DefaultSet (buffers (now (text .entry)) (now (types .entry)) (now (boundaries .entry)) (now («char_pos» .entry)) (now («byte_pos» .entry)) (now («row_ends» .entry)) (now («tag_ends» .entry)) (now («tag_bytes» .entry))) r (buffers (now (text .exit)) (now (types .exit)) (now (boundaries .exit)) (now («char_pos» .exit)) (now («byte_pos» .exit)) (now («row_ends» .exit)) (now («tag_ends» .exit)) (now («tag_bytes» .exit))) ⌝ }
+{
+    if !blank_fits(
+        text.len(),
+        types.len(),
+        char_pos.len(),
+        byte_pos.len(),
+        row_ends.len(),
+    ) {
+        return Answer::Refused(Refusal {
+            number: 15,
+            place: 0,
+        });
+    }
+    text[0] = 32;
+    types[0] = 6;
+    char_pos[0] = 0;
+    char_pos[1] = 1;
+    byte_pos[0] = 0;
+    byte_pos[1] = 1;
+    row_ends[0] = 0;
+    Answer::Sentence(Record {
+        n: 1,
+        b: 1,
+        columns: 0,
+        k: 0,
+        g: 0,
+    })
+}
