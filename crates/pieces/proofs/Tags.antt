@@ -8,22 +8,14 @@ use lib.ListN.{length, take, drop, getD, set, replicate, length-append, length-s
 use Rattle.sentence.specs.Sentence.{pad}
 use Rattle.sentence.specs.Reading.{Form}
 use Rattle.sentence.specs.Writing.{escape, writeTags}
+use Rattle.lookups.specs.Answers.{edge}
 use Rattle.escape.specs.Wrote.{Wrote, wrote-both, wrote-long, Writing, write-start, write-byte, write-part, write-fits, write-done}
 use Rattle.escape.proofs.Encoded.{tags-append, tags-absent}
-use Rattle.pieces.specs.Pieces.{startAt, pieceAt, piecesAt, rowAt, rowLine, Lie, RowLies, TextLies, textAt}
+use Rattle.pieces.specs.Pieces.{pieceAt, piecesAt, rowAt, rowLine, Lie, RowLies, TextLies, textAt}
 
--- ---- where a part begins
-pub start-first : (es : List ℕ) (k : ℕ) → k ≡ 0 → 0 ≡ startAt es k
-unfolding startAt
-start-first es k e = rw e
-
-pub start-next : (es : List ℕ) (k : ℕ) → startAt es (k + 1) ≡ getD es k 0
-unfolding startAt
-start-next es k = rw add-one
-
-pub start-later : (es : List ℕ) (k : ℕ) {v : ℕ} → (k ≡ 0 → ⊥) → v ≡ getD es (k - 1) 0 → v ≡ startAt es k
-start-later es zero n e = absurd (n refl)
-start-later es (suc k) n e = let j : suc k - 1 ≡ k = omega arith in let m : k + 1 ≡ suc k = omega arith in rw j at e ∙ sym (rw m at (start-next es k))
+-- ---- where a part begins: at the end of the one before it
+pub edge-next : (es : List ℕ) (k : ℕ) → edge es (k + 1) ≡ getD es k 0
+edge-next es k = rw add-one
 
 -- ---- the parts from j up to e
 pub pieces-step : (es d : List ℕ) (j e : ℕ) → j < e → piecesAt es d j (e - j) ≡ pieceAt es d j ∷ piecesAt es d (j + 1) (e - (j + 1))
@@ -42,10 +34,10 @@ pieces-count es d k (suc n) = ap suc (pieces-count es d (k + 1) n)
 -- ---- a loop that writes the tags up to e: it is at the j-th, whose bytes start at `from`
 pub record Tagging (f : Form) (es d : List ℕ) (e : ℕ) (out₀ : List ℕ) (at : ℕ) (all out : List ℕ) (from j n : ℕ) : Type 0 where
   pub upto : j ≤ e
-  pub here : from ≡ startAt es j
+  pub here : from ≡ edge es j
   pub writing : Writing out₀ at all out n (writeTags f (piecesAt es d j (e - j)))
 
-pub tags-start : (f : Form) (es d : List ℕ) (k e : ℕ) (out : List ℕ) (at : ℕ) {from : ℕ} → k ≤ e → from ≡ startAt es k
+pub tags-start : (f : Form) (es d : List ℕ) (k e : ℕ) (out : List ℕ) (at : ℕ) {from : ℕ} → k ≤ e → from ≡ edge es k
     → at + length (writeTags f (piecesAt es d k (e - k))) ≤ length out
     → Tagging f es d e out at (writeTags f (piecesAt es d k (e - k))) out from k at
 tags-start f es d k e out at h p r = record { upto = h; here = p; writing = write-start out at _ r }
@@ -67,7 +59,7 @@ module _ {f : Form} {es d : List ℕ} {e : ℕ} {out₀ : List ℕ} {at : ℕ} {
     pub tag-turn : {out′ : List ℕ} {n′ : ℕ} → Wrote (set out n 47) (n + 1) (escape f (drop from (take to d))) out′ n′ → Tagging f es d e out₀ at all out′ to (j + 1) n′
     tag-turn w = record {
       upto = omega arith;
-      here = p ∙ sym (start-next es j);
+      here = p ∙ sym (edge-next es j);
       writing = write-part (write-byte (t .writing) tag-left) refl w;
     }
 
@@ -78,7 +70,7 @@ module _ {f : Form} {es d : List ℕ} {e : ℕ} {out₀ : List ℕ} {at : ℕ} {
 pub ruleset tagging = (tags-start, tag-byte, tag-part, tag-turn, tags-done)
 
 -- ---- a row: its tags from k up to e, then absent ones up to n columns
-module _ (f : Form) (n : ℕ) (rs es d : List ℕ) (i k e : ℕ) (a : k ≡ startAt rs i) (b : e ≡ getD rs i 0) where
+module _ (f : Form) (n : ℕ) (rs es d : List ℕ) (i k e : ℕ) (a : k ≡ edge rs i) (b : e ≡ getD rs i 0) where
   pub row-split : rowLine f n (rowAt rs es d i) ≡ writeTags f (piecesAt es d k (e - k)) ++ replicate (n - (e - k)) 47
   unfolding rowAt pad
   row-split = rw (← a, ← b, pieces-count es d k (e - k), tags-append, tags-absent)

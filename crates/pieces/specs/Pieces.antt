@@ -5,14 +5,11 @@ use lib.ListN.{length, take, drop, getD}
 use Rattle.sentence.specs.Sentence.{Tag, pad}
 use Rattle.sentence.specs.Reading.{Form, tokenized, partial}
 use Rattle.sentence.specs.Writing.{escape, writeTags}
-
--- where the k-th part begins: at the end of the one before it
-unfoldable pub startAt : List ℕ → ℕ → ℕ
-startAt es k = getD (0 ∷ es) k 0
+use Rattle.lookups.specs.Answers.{edge}
 
 -- the k-th part of d
 unfoldable pub pieceAt : List ℕ → List ℕ → ℕ → Tag
-pieceAt es d k = drop (startAt es k) (take (getD es k 0) d)
+pieceAt es d k = drop (edge es k) (take (getD es k 0) d)
 
 -- n parts of d, from the k-th on
 unfoldable pub piecesAt : List ℕ → List ℕ → ℕ → ℕ → List Tag
@@ -21,7 +18,7 @@ piecesAt es d k (suc n) = pieceAt es d k ∷ piecesAt es d (k + 1) n
 
 -- the tags of the i-th row, as bytes
 unfoldable pub rowAt : List ℕ → List ℕ → List ℕ → ℕ → List Tag
-rowAt rs es d i = piecesAt es d (startAt rs i) (getD rs i 0 - startAt rs i)
+rowAt rs es d i = piecesAt es d (edge rs i) (getD rs i 0 - edge rs i)
 
 -- what is written of a row: its tags, and absent ones up to n columns
 abbrev pub rowLine : Form → ℕ → List Tag → List ℕ
@@ -30,13 +27,13 @@ rowLine f n r = writeTags f (pad n r)
 -- the first n ends do not fall, and none is past `top`
 pub record Lie (es : List ℕ) (n top : ℕ) : Type 0 where
   pub long : n ≤ length es
-  pub rises : (k : ℕ) → k < n → startAt es k ≤ getD es k 0
+  pub rises : (k : ℕ) → k < n → edge es k ≤ getD es k 0
   pub within : (k : ℕ) → k < n → getD es k 0 ≤ top
 
 -- the i-th row lies among tags that lie in d
 pub record RowLies (rs es d : List ℕ) (i : ℕ) : Type 0 where
   pub inside : i < length rs
-  pub rises : startAt rs i ≤ getD rs i 0
+  pub rises : edge rs i ≤ getD rs i 0
   pub tags : Lie es (getD rs i 0) (length d)
 
 -- the characters from b up to e lie in the text

@@ -3,31 +3,22 @@ use escape::given::copy;
 use escape::given::copy_escaped;
 use escape::given::escaped_len;
 use escape::given::repeat;
+use lookups::given::edge;
 ghost use Prim.Native.Nat.{_+_, _-_, _^_, _≤_, _<_};
 ghost use mathlib.Core.Path.{_≡_};
 ghost use lib.ListN.{length, getD};
 ghost use Rattle.sentence.specs.Reading.{tokenized};
 ghost use Rattle.sentence.specs.Writing.{writeTags};
+ghost use Rattle.lookups.specs.Answers.{edge};
 ghost use Rattle.escape.specs.Escape.{formOf};
 ghost use Rattle.escape.specs.Wrote.{Wrote};
-ghost use Rattle.pieces.specs.Pieces.{startAt, piecesAt, rowAt, rowLine, Lie, RowLies, TextLies, charLine, tokenLine};
+ghost use Rattle.pieces.specs.Pieces.{piecesAt, rowAt, rowLine, Lie, RowLies, TextLies, charLine, tokenLine};
 
 // A position or an end as a number of bytes.
 fn wide(x: u16) -> usize
     ensures { λ r. ⌜ r ≡ x ⌝ }
 {
     x as usize
-}
-
-// Where the k-th part begins, by the ends of the parts.
-fn start_of(ends: &[u16], k: usize) -> usize
-    requires { ⌜ k ≤ length (now ends) ⌝ }
-    ensures { λ r. ⌜ r ≡ startAt (now (ends .entry)) k ⌝ }
-{
-    if k == 0 {
-        return 0;
-    }
-    wide(ends[k - 1])
 }
 
 // The tags from `k` up to `end`, each behind a slash.
@@ -43,7 +34,7 @@ fn tags_into(
     requires { ⌜ (k ≤ end) × Lie (now «tag_ends») end (length (now «tag_bytes»)) × (at + length (writeTags (formOf «in_partial») (piecesAt (now «tag_ends») (now «tag_bytes») k (end - k))) ≤ length (now out)) ⌝ }
     ensures { λ r. ⌜ Wrote (now (out .entry)) at (writeTags (formOf «in_partial») (piecesAt (now («tag_ends» .entry)) (now («tag_bytes» .entry)) k (end - k))) (now (out .exit)) r ⌝ }
 {
-    let mut from = start_of(tag_ends, k);
+    let mut from = edge(tag_ends, k);
     let mut j = k;
     let mut n = at;
     while j < end {
@@ -70,7 +61,7 @@ fn row_into(
     requires { ⌜ RowLies (now «row_ends») (now «tag_ends») (now «tag_bytes») i × (at + length (rowLine (formOf «in_partial») columns (rowAt (now «row_ends») (now «tag_ends») (now «tag_bytes») i)) ≤ length (now out)) ⌝ }
     ensures { λ r. ⌜ Wrote (now (out .entry)) at (rowLine (formOf «in_partial») columns (rowAt (now («row_ends» .entry)) (now («tag_ends» .entry)) (now («tag_bytes» .entry)) i)) (now (out .exit)) r ⌝ }
 {
-    let k = start_of(row_ends, i);
+    let k = edge(row_ends, i);
     let end = wide(row_ends[i]);
     let n = tags_into(in_partial, tag_ends, tag_bytes, k, end, out, at);
     let listed = end - k;
@@ -125,13 +116,13 @@ pub fn token_into(
 
 // How many bytes the tags of the i-th row take, and absent ones up to `columns`, each behind a slash.
 fn row_len(row_ends: &[u16], tag_ends: &[u16], tag_bytes: &[u8], i: usize, columns: usize) -> usize
-    requires { ⌜ RowLies (now «row_ends») (now «tag_ends») (now «tag_bytes») i × (getD (now «row_ends») i 0 ≤ startAt (now «row_ends») i + columns) × (length (rowLine tokenized columns (rowAt (now «row_ends») (now «tag_ends») (now «tag_bytes») i)) < 2 ^ 32) ⌝ }
+    requires { ⌜ RowLies (now «row_ends») (now «tag_ends») (now «tag_bytes») i × (getD (now «row_ends») i 0 ≤ edge (now «row_ends») i + columns) × (length (rowLine tokenized columns (rowAt (now «row_ends») (now «tag_ends») (now «tag_bytes») i)) < 2 ^ 32) ⌝ }
     ensures { λ r. ⌜ r ≡ length (rowLine tokenized columns (rowAt (now («row_ends» .entry)) (now («tag_ends» .entry)) (now («tag_bytes» .entry)) i)) ⌝ }
 {
-    let k = start_of(row_ends, i);
+    let k = edge(row_ends, i);
     let end = wide(row_ends[i]);
-    let from = start_of(tag_ends, k);
-    let to = start_of(tag_ends, end);
+    let from = edge(tag_ends, k);
+    let to = edge(tag_ends, end);
     columns + escaped_len(false, tag_bytes, from, to)
 }
 
@@ -146,7 +137,7 @@ pub fn token_len(
     e: usize,
     columns: usize,
 ) -> usize
-    requires { ⌜ (1 ≤ e) × TextLies (now «char_pos») (now text) b e × RowLies (now «row_ends») (now «tag_ends») (now «tag_bytes») (e - 1) × (getD (now «row_ends») (e - 1) 0 ≤ startAt (now «row_ends») (e - 1) + columns) × (length (tokenLine columns (now text) (now «char_pos») (now «row_ends») (now «tag_ends») (now «tag_bytes») b e) < 2 ^ 32) ⌝ }
+    requires { ⌜ (1 ≤ e) × TextLies (now «char_pos») (now text) b e × RowLies (now «row_ends») (now «tag_ends») (now «tag_bytes») (e - 1) × (getD (now «row_ends») (e - 1) 0 ≤ edge (now «row_ends») (e - 1) + columns) × (length (tokenLine columns (now text) (now «char_pos») (now «row_ends») (now «tag_ends») (now «tag_bytes») b e) < 2 ^ 32) ⌝ }
     ensures { λ r. ⌜ r ≡ length (tokenLine columns (now (text .entry)) (now («char_pos» .entry)) (now («row_ends» .entry)) (now («tag_ends» .entry)) (now («tag_bytes» .entry)) b e) ⌝ }
 {
     let from = wide(char_pos[b]);

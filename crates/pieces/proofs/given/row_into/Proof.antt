@@ -4,8 +4,8 @@ use borrow.Author.Needs.{needs}
 use Rattle.pieces.proofs.given.row_into.Statement.{statement}
 use Rattle.pieces.proofs.given.row_into.Tie as tie
 
-start-of-requires : tie.Need-start-of-requires
-start-of-requires c κs = search needs
+edge-requires : tie.Need-edge-requires
+edge-requires c κs = search needs
 
 mul-wide : tie.Need-mul-wide
 mul-wide c = search needs
@@ -17,7 +17,7 @@ wide-requires : tie.Need-wide-requires
 wide-requires c κs = search needs
 
 tags-into-requires : tie.Need-tags-into-requires
-tags-into-requires c κs = let s = c .before .before .before .before .before .before .before .before in row-tags _ (s .args .columns) _ _ _ _ _ _ (c .before .before .before .start-of .ensures) (c .before .wide .ensures) (s .args .out .now) _ (s .pre .1) (s .pre .0)
+tags-into-requires c κs = let s = c .before .before .before .before .before .before .before .before in row-tags _ (s .args .columns) _ _ _ _ _ _ (c .before .before .before .edge .ensures) (c .before .wide .ensures) (s .args .out .now) _ (s .pre .1) (s .pre .0)
 
 sub-listed : tie.Need-sub-listed
 sub-listed c = search needs
@@ -44,7 +44,7 @@ pub row-into-spec : {M : Type 1} → statement M
 row-into-spec =
     tie.close
     (tie.spec
-    start-of-requires
+    edge-requires
     mul-wide
     shared-slice-read-wide
     wide-requires

@@ -4,8 +4,8 @@ use borrow.Author.Needs.{needs}
 use Rattle.pieces.proofs.given.row_len.Statement.{statement}
 use Rattle.pieces.proofs.given.row_len.Tie as tie
 
-start-of-requires : tie.Need-start-of-requires
-start-of-requires c κs = search needs
+edge-requires : tie.Need-edge-requires
+edge-requires c κs = search needs
 
 mul-wide : tie.Need-mul-wide
 mul-wide c = search needs
@@ -16,17 +16,17 @@ shared-slice-read-wide c = search needs
 wide-requires : tie.Need-wide-requires
 wide-requires c κs = search needs
 
-start-of-requires-2 : tie.Need-start-of-requires-2
-start-of-requires-2 c κs = search needs
+edge-requires-2 : tie.Need-edge-requires-2
+edge-requires-2 c κs = search needs
 
-start-of-requires-3 : tie.Need-start-of-requires-3
-start-of-requires-3 c κs = search needs
+edge-requires-3 : tie.Need-edge-requires-3
+edge-requires-3 c κs = search needs
 
 escaped-len-requires : tie.Need-escaped-len-requires
-escaped-len-requires c κs = row-bytes _ _ _ _ _ _ _ _ (c .before .before .before .before .start-of .ensures) (c .before .before .wide .ensures) (c .before .start-of2 .ensures) (c .start-of3 .ensures) (c .before .before .before .before .before .before .before .before .pre .0)
+escaped-len-requires c κs = row-bytes _ _ _ _ _ _ _ _ (c .before .before .before .before .edge .ensures) (c .before .before .wide .ensures) (c .before .edge2 .ensures) (c .edge3 .ensures) (c .before .before .before .before .before .before .before .before .pre .0)
 
 add-result : tie.Need-add-result
-add-result c = let s = c .before .before .before .before .before .before .before .before .before in row-room _ _ _ _ _ _ _ _ (c .before .before .before .before .before .start-of .ensures) (c .before .before .before .wide .ensures) (c .before .before .start-of2 .ensures) (c .before .start-of3 .ensures) (s .pre .0) (s .args .columns) (c .escaped-len .ensures) (s .pre .1) (s .pre .2)
+add-result c = let s = c .before .before .before .before .before .before .before .before .before in row-room _ _ _ _ _ _ _ _ (c .before .before .before .before .before .edge .ensures) (c .before .before .before .wide .ensures) (c .before .before .edge2 .ensures) (c .before .edge3 .ensures) (s .pre .0) (s .args .columns) (c .escaped-len .ensures) (s .pre .1) (s .pre .2)
 
 returns : tie.Need-returns
 returns c = search row-long
@@ -35,12 +35,12 @@ pub row-len-spec : {M : Type 1} → statement M
 row-len-spec =
     tie.close
     (tie.spec
-    start-of-requires
+    edge-requires
     mul-wide
     shared-slice-read-wide
     wide-requires
-    start-of-requires-2
-    start-of-requires-3
+    edge-requires-2
+    edge-requires-3
     escaped-len-requires
     add-result
     returns)

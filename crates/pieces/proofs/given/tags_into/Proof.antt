@@ -16,8 +16,8 @@ Inv-loop in-partial tag-ends tag-bytes k end out₀ at from₀ j₀ n₀ out fro
 abbrev μ-loop : tie.MeasureT-loop
 μ-loop in-partial tag-ends tag-bytes k end out₀ at from₀ j₀ n₀ out from j n = end - j
 
-start-of-requires : tie.Need-start-of-requires Inv-loop μ-loop
-start-of-requires c κs = search (tagging, needs)
+edge-requires : tie.Need-edge-requires Inv-loop μ-loop
+edge-requires c κs = search (tagging, needs)
 
 loop-holds : tie.Need-loop-holds Inv-loop μ-loop
 loop-holds c = search (tagging, needs)
@@ -61,7 +61,7 @@ tags-into-spec =
     (tie.spec
     Inv-loop
     μ-loop
-    start-of-requires
+    edge-requires
     loop-holds
     mul-wide
     shared-slice-read-wide
