@@ -15,7 +15,7 @@ ghost use Rattle.escape.specs.Wrote.{Wrote};
 ghost use Rattle.pieces.specs.Pieces.{piecesAt, rowAt, rowLine, Lie, RowLies, TextLies, charLine, tokenLine};
 
 // A position or an end as a number of bytes.
-fn wide(x: u16) -> usize
+pub fn wide(x: u16) -> usize
     ensures { λ r. ⌜ r ≡ x ⌝ }
 {
     x as usize
