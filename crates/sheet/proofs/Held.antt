@@ -82,7 +82,7 @@ length-numbers k [] = refl
 length-numbers k (c ∷ cs) = rw (length-append, length-replicate) (omega (arith, width-small c, length-numbers (k + 1) cs))
 
 -- ---- each part gives back what it was made of
-marks-back : (ms : List Mark) → map markOf (map code ms) ≡ ms
+pub marks-back : (ms : List Mark) → map markOf (map code ms) ≡ ms
 unfolding markOf code
 marks-back [] = refl
 marks-back (none ∷ ms) = rw (marks-back ms)
