@@ -2,12 +2,12 @@
 use Prim.Native.Nat.{ℕ, zero, suc, _+_, _-_, _≤_, _<_}
 use native.Mathlib.Omega.{arith}
 use mathlib.Core.Path.{_≡_, refl, sym, _∙_}
-use mathlib.Core.Bool.{true, false, _&&_}
+use mathlib.Core.Bool.{Bool, true, false, not, _&&_, _||_, false≢true}
 use mathlib.Core.List.{List, [], _∷_}
 use mathlib.Core.Logic.{inr}
 use native.Mathlib.Numerals.{add-one}
-use borrow.Author.Tests.{eq-eqb, ne-eqb, le-ltb}
-use lib.Dec.{leb}
+use borrow.Author.Tests.{eq-eqb, ne-eqb, le-ltb, leb-false, ltb-false, not-false}
+use lib.Dec.{leb, ltb}
 use lib.ListN.{length, getD, take, drop, List·getD-eq-default}
 use Rattle.laws.specs.If.{if_then_else_, if-true, if-false}
 use Rattle.laws.proofs.Facts.{reads, or-is}
@@ -18,12 +18,24 @@ use Rattle.sentence.specs.Sentence.{Tag, Sentence, text, rows, charPositions, b
 use Rattle.sentence.specs.Refusals.{verdict}
 use Rattle.sheet.specs.Layout.{Buffers, tagsOf, Holds}
 use Rattle.sheet.specs.declared.Record.{Record}
+use Rattle.sheet.specs.declared.Number.{Number}
 use Rattle.sheet.specs.declared.Number.the-variants as number
 use Rattle.sheet.specs.declared.Part.{Part}
 use Rattle.sheet.specs.declared.Part.the-variants as part
 use Rattle.sheet.proofs.Held.{length-starts, byte-pos-held}
 use Rattle.sheet.proofs.Look.{part-at, bytes-among, start-is, bounds, char-pos-is, byte-pos-is, byte-pos-small, row-end-is, tag-end-is, row-next, row-inside, tag-in-row, tag-next}
 use Rattle.lookups.specs.Answers.{startAt, found, strToCharPos, cellStart, tagPart, cell, bytesOf, edge}
+
+-- ---- numbers in range
+or-none : (p q : Bool) → (p || q) ≡ false → (p ≡ false) × (q ≡ false)
+or-none true q h = absurd (false≢true (sym h))
+or-none false q h = (refl, h)
+
+pub first-in : (n row : ℕ) (q : Bool) → (leb n row || q) ≡ false → row < n
+first-in n row q h = leb-false n row (or-none (leb n row) q h .0)
+
+pub both-in : (start end n : ℕ) → (leb end start || ltb n end) ≡ false → (start ≤ n) × (end ≤ n)
+both-in start end n h = let k = or-none (leb end start) (ltb n end) h in omega (arith, leb-false end start (k .0), ltb-false n end (k .1))
 
 -- ---- the bytes of a part
 pub ordered : (b e n : ℕ) → (leb b e && leb e n) ≡ true → (b ≤ e) × (e ≤ n)
@@ -44,6 +56,10 @@ part-absent l p q = rw q
 pub part-refused : (l : List ℕ) (p : Part) (x : Refusal) → p ≡ part.Refused x → [] ≡ bytesOf l p
 unfolding bytesOf
 part-refused l p x q = rw q
+
+-- ---- the answer where the check g was passed
+pub pos-good : (g good : Bool) (s : Sentence) (p : ℕ) (a : Number) → g ≡ good → not g ≡ false → a ≡ strToCharPos true s p → a ≡ strToCharPos good s p
+pos-good g good s p a e h f = let k : good ≡ true = sym e ∙ not-false g h in rw k f
 
 -- ---- a number that stands in a list stands at an index
 found-at : (l : List ℕ) (i p : ℕ) → i < length l → getD l i 0 ≡ p → found p l ≡ true

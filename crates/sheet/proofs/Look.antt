@@ -4,18 +4,25 @@ use native.Mathlib.Numerals.{add-one}
 use native.Mathlib.Decide.{decLt}
 use native.Mathlib.Omega.{arith}
 use mathlib.Core.Path.{_≡_, refl, sym, ap, _∙_}
+use mathlib.Core.Bool.{Bool, true, false, not}
 use mathlib.Core.List.{List, [], _∷_, _++_, append-nil, append-assoc}
 use lib.ListN.{length, getD, take, drop, replicate, length-append, length-drop, length-replicate, getD-replicate, take-append-drop, drop-of-length-le, List·getD-append, List·getD-map}
 use lib.Seq.{length-take-le, take-suc, drop-cons, take-add, take-take, take-nil, take-length, take-at, drop-at, take-append-le, drop-append-le, getD-take, getD-drop, getD-append-add}
+use borrow.Author.Tests.{not-false}
+use Rattle.laws.specs.If.{if_then_else_}
 use Rattle.laws.specs.All.{All}
 use Rattle.utf8.specs.Utf8.{decodeAt, width, encodes, size}
 use Rattle.utf8.specs.declared.Decoded.the-variants.{Char}
 use Rattle.utf8.proofs.Codec.{length-encodes, encodes-append, size-append, width-small, decode-encode}
 use Rattle.sentence.specs.Sentence.{Tag, Mark, none, word, unknown, code, Sentence, text, marks, rows, starts, numbers, listed, rowBytes, tagBytes, Row}
 use Rattle.sentence.specs.Sentence as SC
+use Rattle.sentence.specs.declared.Refusal.{Refusal}
+use Rattle.sentence.specs.Refusals.{refusal, Check, check, verdict, sheetOrder}
 use Rattle.sentence.specs.Writing.{surface}
 use Rattle.sheet.specs.declared.Record.{Record}
-use Rattle.sheet.specs.Layout.{Buffers, tagsOf, rowEnds, tagEnds, bytesOf, Holds, markOf}
+use Rattle.sheet.specs.Layout.{Buffers, tagsOf, rowEnds, tagEnds, bytesOf, Holds, Sheet, markOf}
+use Rattle.sheet.specs.Check.{isSheet}
+use Rattle.sheet.proofs.Exact.{is-sheet}
 use Rattle.sheet.proofs.Held.{Part, length-marks, length-rows, length-tagsOf, length-bytesOf, bytes-tagsOf, n-held, b-held, columns-held, k-held, g-held, text-held, types-held, boundaries-held, char-pos-held, byte-pos-held, row-ends-held, tag-ends-held, tag-bytes-held, text-chars-held, rows-held}
 
 -- ---- a buffer that starts with a part of n elements
@@ -385,3 +392,33 @@ module _ {r : Record} {d : Buffers} {s : Sentence} (h : Holds r d s) where
   pub row-fits : (i : ℕ) → i < r .n → length (getD (rows s) i []) ≤ r .columns
   row-fits i k =
       omega (arith, bounds, all-at (Row (s .columns)) [] (rows s) i (rows-held h) (omega (arith, bounds)) .fits)
+
+-- ---- the answers of a call that goes by whether there is a sheet: g is what the check answered, `out` whether a number is out of range
+module _ {A : Type 0} (refuse : Refusal → A) (g good out : Bool) (first : ℕ) (served : A) (e : g ≡ good) where
+  pub broken : not g ≡ true → refuse (refusal 13 0) ≡ verdict refuse (sheetOrder (not good) out first false 0) served
+  unfolding verdict if_then_else_
+  broken h = rw (← e, h)
+
+  pub outside : not g ≡ false → out ≡ true → refuse (refusal 14 first) ≡ verdict refuse (sheetOrder (not good) out first false 0) served
+  unfolding verdict if_then_else_
+  outside h o = rw (← e, h, o)
+
+  pub inside : not g ≡ false → out ≡ false → (a : A) → a ≡ served → a ≡ verdict refuse (sheetOrder (not good) out first false 0) served
+  unfolding verdict if_then_else_
+  inside h o a s = s ∙ rw (← e, h, o)
+
+-- what a check that was passed says
+pub checked : (r : Record) (d : Buffers) (g : Bool) → g ≡ isSheet r d → not g ≡ false → Sheet r d
+checked r d g e h = is-sheet r d (sym e ∙ not-false g h)
+
+-- the checks that an answer passed which is no refusal
+abbrev pub Passed : List Check → Type 0
+Passed [] = Unit {0}
+Passed (check b n p ∷ cs) = (b ≡ false) × Passed cs
+
+pub passed : {A : Type 0} (refuse : Refusal → A) (a : A) → ((x : Refusal) → refuse x ≡ a → ⊥)
+    → (cs : List Check) (served : A) → verdict refuse cs served ≡ a → Passed cs × (served ≡ a)
+unfolding verdict if_then_else_
+passed refuse a apart [] served e = (tt, e)
+passed refuse a apart (check true n p ∷ cs) served e = absurd (apart _ e)
+passed refuse a apart (check false n p ∷ cs) served e = let k = passed refuse a apart cs served e in ((refl, k .0), k .1)
