@@ -7,7 +7,7 @@ use native.Mathlib.Numerals.{add-one}
 use native.Mathlib.Omega.{arith}
 use lib.ListN.{length, set, take, drop, length-append, length-set}
 use lib.Seq.{sets, sets-eq}
-use Rattle.laws.specs.Put.{put, length-put}
+use Rattle.laws.specs.Put.{put, length-put, over, put-front}
 
 -- the bytes vs stand in the output from `at` on, and all else is as it was; the answer is where they end
 pub record Wrote (out₀ : List ℕ) (at : ℕ) (vs out : List ℕ) (r : ℕ) : Type 0 where
@@ -37,6 +37,14 @@ wrote-both {o₀} {vs} {ws = ws} {at = at} p q = record {
 
 pub wrote-long : {o₀ vs o : List ℕ} {at r : ℕ} → Wrote o₀ at vs o r → length o ≡ length o₀
 wrote-long {o₀} {vs} {at = at} w = ap length (w .bytes) ∙ length-put vs o₀ at
+
+-- the line stands at the front of the output, and all behind it is as it was; the answer is its length
+pub record Lined (line out₀ out : List ℕ) (r : ℕ) : Type 0 where
+  pub out-is : out ≡ over line out₀
+  pub length-is : r ≡ length line
+
+pub lined : {line out₀ out : List ℕ} {r : ℕ} → length line ≤ length out₀ → Wrote out₀ 0 line out r → Lined line out₀ out r
+lined {line} {out₀} h w = record { out-is = w .bytes ∙ put-front line out₀ h; length-is = omega (arith, w .end) }
 
 -- A loop that writes `all` into out₀ from `from` on: the output is d now, and `left` is to be written from `at` on
 pub record Writing (out₀ : List ℕ) (from : ℕ) (all d : List ℕ) (at : ℕ) (left : List ℕ) : Type 0 where

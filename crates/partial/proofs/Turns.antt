@@ -7,7 +7,6 @@ use borrow.Author.Tests.{ne-eqb}
 use lib.Dec.{eqb}
 use lib.ListN.{length, drop, getD, set}
 use Rattle.laws.specs.If.{if_then_else_}
-use Rattle.laws.specs.Put.{put-front}
 use Rattle.utf8.specs.Utf8.{encode, encodes}
 use Rattle.utf8.proofs.Codec.{encodes-append}
 use Rattle.sentence.specs.Sentence.{Tag, Mark, none, word, unknown, Cells, final, cell, Sentence, textOf, marksOf, rowsOf, text, marks, rows, cut, pad, Row}
@@ -17,10 +16,9 @@ use Rattle.sheet.specs.declared.Record.{Record}
 use Rattle.sheet.specs.Layout.{Buffers, markOf, Holds, spell, Sheet}
 use Rattle.sheet.proofs.Held.{rows-held, columns-held}
 use Rattle.sheet.proofs.Look.{left, all-at, Bounds, bounds, marks-step, marks-done, text-step}
-use Rattle.escape.specs.Wrote.{Wrote, Writing, write-start, write-byte, write-part, write-fits, write-done}
+use Rattle.escape.specs.Wrote.{Wrote, Lined, lined, Writing, write-start, write-byte, write-part, write-fits, write-done}
 use Rattle.pieces.specs.Pieces.{RowLies, TextLies, charLine}
 use Rattle.pieces.proofs.Held.{text-lies, text-is, row-lies, row-line}
-use Rattle.partial.specs.Line.{Lined}
 
 -- ---- the line of characters with the boundaries between them and their rows
 partialFrom : ℕ → List ℕ → List Mark → List (List Tag) → List ℕ
@@ -157,4 +155,4 @@ module _ {r : Record} {d : Buffers} {out₀ out : List ℕ} {at i : ℕ} (t : Tu
     pub last-done : {out′ : List ℕ} {at′ : ℕ} → Wrote out at (charIn d (r .columns) (r .n - 1)) out′ at′ → Lined (written partial (spell r d)) out₀ out′ at′
     last-done c =
         let w = write-done (write-part (t .writing) (rw append-nil (left-last (t .sheet) i at-last)) (rw (← at-last) at c)) refl in
-        record { out-is = w .bytes ∙ put-front (written partial (spell r d)) out₀ (omega (arith, t .writing .room)); length-is = omega (arith, w .end) }
+        lined (omega (arith, t .writing .room)) w

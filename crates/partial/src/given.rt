@@ -12,7 +12,8 @@ ghost use Rattle.sentence.specs.Sentence.{marks, rows};
 ghost use Rattle.sentence.specs.Reading.{partial};
 ghost use Rattle.sentence.specs.Writing.{sign, written};
 ghost use Rattle.sheet.specs.Layout.{buffers, markOf, spell, Sheet};
-ghost use Rattle.partial.specs.Line.{Lined, slashes};
+ghost use Rattle.escape.specs.Wrote.{Lined};
+ghost use Rattle.partial.specs.Line.{slashes};
 
 // The sign of a boundary.
 fn sign_of(m: u8) -> u8
