@@ -126,7 +126,7 @@ module _ {r : Record} {d : Buffers} {s : Sentence} (h : Holds r d s) where
   row-edge zero k = refl
   row-edge (suc i) k = rw add-one at (row-end-is h i (omega arith))
 
-  tag-edge : (j : ℕ) → j ≤ r .k → edge (d .tag-ends-buf) j ≡ rowBytes (take j (tagsOf (rows s)))
+  pub tag-edge : (j : ℕ) → j ≤ r .k → edge (d .tag-ends-buf) j ≡ rowBytes (take j (tagsOf (rows s)))
   unfolding rowBytes
   tag-edge zero k = refl
   tag-edge (suc j) k = rw add-one at (tag-end-is h j (omega arith))

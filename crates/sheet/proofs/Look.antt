@@ -104,7 +104,7 @@ unfolding tagsOf
 tags-joined [] vs = refl
 tags-joined (u ∷ us) vs = rw (tags-joined us vs, append-assoc)
 
-bytes-joined : (us vs : List Tag) → bytesOf (us ++ vs) ≡ bytesOf us ++ bytesOf vs
+pub bytes-joined : (us vs : List Tag) → bytesOf (us ++ vs) ≡ bytesOf us ++ bytesOf vs
 unfolding bytesOf
 bytes-joined [] vs = refl
 bytes-joined (u ∷ us) vs = rw (bytes-joined us vs, append-assoc)
