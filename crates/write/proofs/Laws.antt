@@ -23,14 +23,14 @@ use Rattle.write.specs.Answers.{lineOf, writeOrder, Written}
 
 -- ---- the answers: g is what the check answered, n the length that was measured
 module _ (f : Form) (r : Record) (d : Buffers) (out : List ℕ) (g : Bool) (e : g ≡ isSheet r d) where
-  pub write-13 : not g ≡ true → Written f r d out (Refused (refusal 13 0)) out
+  pub write-13 : {a : Number} → not g ≡ true → a ≡ Refused (refusal 13 0) → Written f r d out a out
   unfolding writeOrder verdict if_then_else_
-  write-13 h = record { answer-is = rw (← e, h); out-is = rw (← e, h) }
+  write-13 h q = record { answer-is = rw (← e, h) q; out-is = rw (← e, h) }
 
   module _ (h : not g ≡ false) (n : ℕ) (m : n ≡ length (lineOf f r d)) where
-    pub write-12 : length out < n → Written f r d out (Refused (refusal 12 n)) out
+    pub write-12 : {a : Number} → length out < n → a ≡ Refused (refusal 12 n) → Written f r d out a out
     unfolding writeOrder verdict if_then_else_
-    write-12 l = let t = lt-ltb (length out) n l in record { answer-is = rw (← e, h, ← m, t); out-is = rw (← e, h, ← m, t) }
+    write-12 l q = let t = lt-ltb (length out) n l in record { answer-is = rw (← e, h, ← m, t) q; out-is = rw (← e, h, ← m, t) }
 
     pub write-room : n ≤ length out → Sheet r d × (length (lineOf f r d) ≤ length out)
     write-room l = (checked r d g e h, omega arith)

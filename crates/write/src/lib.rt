@@ -6,9 +6,32 @@ use sheet::Number;
 use sheet::Record;
 use tokenized::given::tokenized_into;
 use tokenized::given::tokenized_len;
+ghost use mathlib.Core.Path.{_≡_};
 ghost use Rattle.sentence.specs.Reading.{tokenized, partial};
+ghost use Rattle.sentence.specs.Refusals.{refusal};
+ghost use Rattle.sheet.specs.declared.Number.the-variants.{Refused};
 ghost use Rattle.sheet.specs.Layout.{buffers};
 ghost use Rattle.write.specs.Answers.{Written};
+
+// 13: the record and the buffers are no sheet.
+fn no_sheet() -> Number
+    ensures { λ a. ⌜ a ≡ Refused (refusal 13 0) ⌝ }
+{
+    Number::Refused(Refusal {
+        number: 13,
+        place: 0,
+    })
+}
+
+// 12: the output has too little room for the line, whose length is the place.
+fn too_short(needed: usize) -> Number
+    ensures { λ a. ⌜ a ≡ Refused (refusal 12 needed) ⌝ }
+{
+    Number::Refused(Refusal {
+        number: 12,
+        place: needed,
+    })
+}
 
 // The tokens, joined by one space, each with all columns of its last character.
 pub fn write_tokenized_text(
@@ -36,10 +59,7 @@ pub fn write_tokenized_text(
         tag_ends,
         tag_bytes,
     ) {
-        return Number::Refused(Refusal {
-            number: 13,
-            place: 0,
-        });
+        return no_sheet();
     }
     let needed = tokenized_len(
         r,
@@ -53,10 +73,7 @@ pub fn write_tokenized_text(
         tag_bytes,
     );
     if out.len() < needed {
-        return Number::Refused(Refusal {
-            number: 12,
-            place: needed,
-        });
+        return too_short(needed);
     }
     let n = tokenized_into(
         r,
@@ -99,10 +116,7 @@ pub fn write_partial_annotation_text(
         tag_ends,
         tag_bytes,
     ) {
-        return Number::Refused(Refusal {
-            number: 13,
-            place: 0,
-        });
+        return no_sheet();
     }
     let needed = partial_len(
         r,
@@ -116,10 +130,7 @@ pub fn write_partial_annotation_text(
         tag_bytes,
     );
     if out.len() < needed {
-        return Number::Refused(Refusal {
-            number: 12,
-            place: needed,
-        });
+        return too_short(needed);
     }
     let n = partial_into(
         r,

@@ -9,14 +9,20 @@ use Rattle.write.proofs.write_partial_annotation_text.Tie as tie
 check-requires : tie.Need-check-requires
 check-requires c κs = search needs
 
+no-sheet-requires : tie.Need-no-sheet-requires
+no-sheet-requires c κs = search needs
+
 returns : tie.Need-returns
-returns c = write-13 partial _ _ _ _ (c .before .check .ensures) (c .if1 .taken)
+returns c = write-13 partial _ _ _ _ (c .before .before .check .ensures) (c .before .if1 .taken) (c .no-sheet .ensures)
 
 partial-len-requires : tie.Need-partial-len-requires
 partial-len-requires c κs = checked _ _ _ (c .before .check .ensures) (c .if1 .left)
 
+too-short-requires : tie.Need-too-short-requires
+too-short-requires c κs = search needs
+
 returns-2 : tie.Need-returns-2
-returns-2 c = write-12 partial _ _ _ _ (c .before .before .before .check .ensures) (c .before .before .if1 .left) _ (c .before .partial-len .ensures) (c .if2 .taken)
+returns-2 c = write-12 partial _ _ _ _ (c .before .before .before .before .check .ensures) (c .before .before .before .if1 .left) _ (c .before .before .partial-len .ensures) (c .before .if2 .taken) (c .too-short .ensures)
 
 partial-into-requires : tie.Need-partial-into-requires
 partial-into-requires c κs = write-room partial _ _ (c .before .before .before .before .before .before .before .before .before .before .before .before .before .before .args .out .now) _ (c .before .before .before .before .check .ensures) (c .before .before .before .if1 .left) _ (c .before .before .partial-len .ensures) (c .before .if2 .left)
@@ -32,8 +38,10 @@ write-partial-annotation-text-spec =
     tie.close
     (tie.spec
     check-requires
+    no-sheet-requires
     returns
     partial-len-requires
+    too-short-requires
     returns-2
     partial-into-requires
     same-length
