@@ -3,65 +3,24 @@ use Prim.Native.Nat.{ℕ, zero, suc, _+_, _-_, _≤_, _<_}
 use native.Mathlib.Omega.{arith}
 use mathlib.Core.Path.{_≡_, refl, sym, ap, _∙_}
 use mathlib.Core.Logic.{_↔_}
-use mathlib.Core.Bool.{Bool, true, false, not, _||_, false≢true, true≢false, and-eq-true-iff}
+use mathlib.Core.Bool.{Bool, true, false, _||_, true≢false, and-eq-true-iff}
 use mathlib.Core.List.{List, [], _∷_, _++_, map}
-use borrow.Author.Tests.{eq-eqb, eqb-true, eqb-false, le-leb, leb-true, lt-ltb, ltb-true, not-true}
+use borrow.Author.Tests.{eq-eqb, eqb-true, eqb-false, le-leb, leb-true, lt-ltb, ltb-true}
 use lib.Dec.{eqb, leb}
 use lib.ListN.{length, take, drop, getD, length-map, length-take, length-drop, take-append-drop}
 use lib.Seq.{length-take-le, drop-drop, drop-length, take-append-le, drop-append-le, take-at, drop-at, getD-take, getD-drop}
 use Rattle.laws.specs.All.{All, All-imp}
 use Rattle.laws.proofs.Facts.{reads}
-use Rattle.utf8.specs.Utf8.{scalars, validPrefix, scalar, encodes, size}
-use Rattle.utf8.proofs.Codec.{width-small, length-encodes, scalars-encodes, encodes-scalars, valid-encodes, all-scalar}
+use Rattle.utf8.specs.Utf8.{scalars, encodes, size}
+use Rattle.utf8.proofs.Codec.{width-small, length-encodes, scalars-encodes}
 use Rattle.types.specs.TypeOf.{typeOf}
 use Rattle.sentence.specs.Sentence.{Tag, Mark, none, word, unknown, code, Cells, Sentence, textOf, marksOf, rowsOf, text, marks, rows, types, charPositions, bytePositions, onto, cut, listed, rowBytes, tagBytes, Char, Row, CellsOf, Formed}
+use Rattle.parts.specs.Parts.{isText, areMarks, chain, isTag, areTags, present, isRow, areRows}
+use Rattle.parts.proofs.Says.{same-self, Plain, plain-is, is-plain, TextIs, text-is}
 use Rattle.sheet.specs.declared.Record.{Record}
 use Rattle.sheet.specs.Layout.{Buffers, recordOf, tagsOf, rowEnds, tagEnds, bytesOf, lay, roomFor, Front, Holds, pieces, markOf, link, spell, Sheet}
-use Rattle.sheet.specs.Check.{inLimits, same, noNul, isPlain, isText, areMarks, areTags, present, areRows, isSheet}
+use Rattle.sheet.specs.Check.{inLimits, isLaid, Room, isSheet}
 use Rattle.sheet.proofs.Held.{length-marks, length-rowEnds, length-tagEnds, length-tagsOf, length-bytesOf, bytes-tagsOf, n-held, b-held, columns-held, k-held, g-held, text-held, types-held, boundaries-held, char-pos-held, byte-pos-held, row-ends-held, tag-ends-held, tag-bytes-held, text-chars-held, rows-held, tags-chars-held}
-
--- ---- lists of which a test says that they are the same
-same-is : (xs ys : List ℕ) → same xs ys ≡ true → xs ≡ ys
-unfolding same
-same-is [] [] e = refl
-same-is [] (y ∷ ys) e = absurd (false≢true e)
-same-is (x ∷ xs) [] e = absurd (false≢true e)
-same-is (x ∷ xs) (y ∷ ys) e =
-    let k = and-eq-true-iff (eqb x y) (same xs ys) .0 e in rw (eqb-true x y (k .0), same-is xs ys (k .1))
-
-same-self : (xs : List ℕ) → same xs xs ≡ true
-unfolding same
-same-self [] = refl
-same-self (x ∷ xs) = rw (eq-eqb x x refl) (same-self xs)
-
--- ---- bytes that are UTF-8 without NUL
-record Plain (s : List ℕ) : Type 0 where
-  bytes : encodes (scalars s) ≡ s
-  chars : All Char (scalars s)
-
-no-nul : (cs : List ℕ) → All (λ c. scalar c ≡ true) cs → noNul cs ≡ true → All Char cs
-unfolding noNul
-no-nul [] a e = tt
-no-nul (c ∷ cs) a e =
-    let k = and-eq-true-iff (not (eqb c 0)) (noNul cs) .0 e in
-    (record { is-scalar = a .0; not-nul = not-true (eqb c 0) (k .0) }, no-nul cs (a .1) (k .1))
-
-nul-free : (cs : List ℕ) → All Char cs → noNul cs ≡ true
-unfolding noNul
-nul-free [] a = refl
-nul-free (c ∷ cs) a = rw (a .0 .not-nul) (nul-free cs (a .1))
-
-plain-is : (s : List ℕ) → isPlain s ≡ true → Plain s
-unfolding isPlain
-plain-is s e =
-    let k = and-eq-true-iff (eqb (validPrefix s) (length s)) (noNul (scalars s)) .0 e in
-    record { bytes = encodes-scalars s (eqb-true _ _ (k .0)); chars = no-nul (scalars s) (all-scalar s) (k .1) }
-
-is-plain : (cs : List ℕ) → All Char cs → isPlain (encodes cs) ≡ true
-unfolding isPlain
-is-plain cs a =
-    let h = All-imp Char _ (λ c p. p .is-scalar) cs a in
-    rw (valid-encodes cs h, eq-eqb (length (encodes cs)) (length (encodes cs)) refl, scalars-encodes cs h) (nul-free cs a)
 
 -- ---- boundaries
 marks-are : (ms : List ℕ) → areMarks ms ≡ true → map code (map markOf ms) ≡ ms
@@ -115,7 +74,7 @@ unfolding tagEnds bytesOf
 tags-none s g e = record { ends = refl; bytes = sym (rw e (drop-length s)); chars = tt }
 
 tags-are : (s x : List ℕ) (g : ℕ) (es : List ℕ) → g ≤ length s → areTags s g es ≡ true → TagsAre s g es (map scalars (pieces g es (drop g s ++ x)))
-unfolding areTags pieces
+unfolding chain isTag pieces
 tags-are s x g [] h e = tags-none s g (eqb-true g (length s) e)
 tags-are s x g (e ∷ es) h k =
     let (((a, b), p), rest) = simp and-eq-true-iff at k in
@@ -126,7 +85,7 @@ tags-are s x g (e ∷ es) h k =
     (tags-more s g e es _ u v (plain-is _ p) (tags-are s x e es v rest))
 
 are-tags : (s : List ℕ) (g : ℕ) (ts : List Tag) → All (All Char) ts → drop g s ≡ bytesOf ts → g + rowBytes ts ≡ length s → areTags s g (tagEnds g ts) ≡ true
-unfolding areTags tagEnds bytesOf rowBytes
+unfolding chain isTag tagEnds bytesOf rowBytes
 are-tags s g [] a e h = eq-eqb g (length s) (omega arith)
 are-tags s g (t ∷ ts) a e h =
     let n : length (encodes t) ≡ g + size t - g = omega (arith, length-encodes t) in
@@ -231,7 +190,7 @@ unfolding rowEnds tagsOf
 rows-none n ts k e = record { ends = refl; tags = sym (rw e (drop-length ts)); rows = tt }
 
 rows-of : (n : ℕ) (ts : List Tag) (k : ℕ) (es : List ℕ) → All (All Char) ts → k ≤ length ts → areRows n (tagEnds 0 ts) k es ≡ true → RowsAre n ts k es (pieces k es (drop k ts))
-unfolding areRows pieces
+unfolding chain isRow pieces
 rows-of n ts k [] a h e = rows-none n ts k (eqb-true k _ e ∙ length-tagEnds 0 ts)
 rows-of n ts k (e ∷ es) a h t =
     let ((((p, q), f), c), rest) = simp and-eq-true-iff at t in
@@ -241,7 +200,7 @@ rows-of n ts k (e ∷ es) a h t =
     (rows-more n ts k e es _ u v (row-is n ts k e a u v (leb-true (e - k) n f) c) (rows-of n ts e es a v rest))
 
 are-rows : (n : ℕ) (ts : List Tag) (k : ℕ) (rs : List (List Tag)) → All (Row n) rs → drop k ts ≡ tagsOf rs → k + listed rs ≡ length ts → areRows n (tagEnds 0 ts) k (rowEnds k rs) ≡ true
-unfolding areRows rowEnds tagsOf listed
+unfolding chain isRow rowEnds tagsOf listed
 are-rows n ts k [] a e h = eq-eqb k _ (omega (arith, length-tagEnds 0 ts))
 are-rows n ts k (r ∷ rs) a e h =
     let z : length r ≡ k + length r - k = omega arith in
@@ -282,9 +241,8 @@ linked n (c ∷ d ∷ cs) (m ∷ ms) (r ∷ rs) e f a b =
       cells-are = (a .0, b .0, l .cells-are);
     }
 
--- ---- what the tests say of the record, the room and the text
+-- ---- what the tests say of the record and the room
 pub record Limits (r : Record) : Type 0 where
-  pub some : 1 ≤ r .n
   pub few-bytes : r .b ≤ 4096
   pub few-columns : r .columns ≤ 4096
   pub few-tags : r .k ≤ 65535
@@ -294,39 +252,9 @@ pub limits-are : (r : Record) → inLimits r ≡ true → Limits r
 unfolding inLimits
 limits-are r = simp reads (omega arith)
 
-pub record Room (r : Record) (d : Buffers) : Type 0 where
-  pub text-room : r .b ≤ length (d .text-buf)
-  pub types-room : r .n ≤ length (d .types-buf)
-  pub boundaries-room : r .n - 1 ≤ length (d .boundaries-buf)
-  pub char-pos-room : r .n + 1 ≤ length (d .char-pos-buf)
-  pub byte-pos-room : r .b + 1 ≤ length (d .byte-pos-buf)
-  pub row-ends-room : r .n ≤ length (d .row-ends-buf)
-  pub tag-ends-room : r .k ≤ length (d .tag-ends-buf)
-  pub tag-bytes-room : r .g ≤ length (d .tag-bytes-buf)
-
-pub room-is : (r : Record) (d : Buffers) → roomFor r d ≡ true → Room r d
-unfolding roomFor
+pub room-is : (r : Record) (d : Buffers) → inLimits r ≡ true → roomFor r d ≡ true → Room r d
+unfolding inLimits roomFor
 room-is r d = simp reads (omega arith)
-
-record TextIs (s ys ps qs cs : List ℕ) : Type 0 where
-  bytes : encodes cs ≡ s
-  chars : All Char cs
-  types-are : types cs ≡ ys
-  starts-are : charPositions cs ≡ ps
-  numbers-are : bytePositions cs ≡ qs
-
-text-is : (s ys ps qs : List ℕ) → isText s ys ps qs ≡ true → TextIs s ys ps qs (scalars s)
-unfolding isText
-text-is s ys ps qs e =
-    let (((p, y), t), q) = simp and-eq-true-iff at e in
-    let k = plain-is s p in
-    record {
-      bytes = k .bytes;
-      chars = k .chars;
-      types-are = same-is _ _ y;
-      starts-are = same-is _ _ t;
-      numbers-are = same-is _ _ q;
-    }
 
 -- ---- a sentence that is held passes each test
 module _ (r : Record) (d : Buffers) (s : Sentence) (h : Holds r d s) where
@@ -384,7 +312,7 @@ module _ (r : Record) (d : Buffers) (s : Sentence) (h : Holds r d s) where
       (are-rows (s .columns) ts 0 (rows s) (rows-held h) refl (omega (arith, length-tagsOf (rows s))))
 
   pub holds-is : isSheet r d ≡ true
-  unfolding isSheet
+  unfolding isSheet isLaid
   holds-is = rw (limits-hold, room-holds, text-holds, boundaries-held h .is, are-marks (marks s), tags-hold, rows-hold)
 
 -- where the test is false, no sentence is held
@@ -444,7 +372,7 @@ module _ (r : Record) (d : Buffers) (cs : List ℕ) (ms : List Mark) (ts : List 
   are-linked : Linked (r .columns) cs ms rs (link cs ms rs)
   are-linked =
       linked (r .columns) cs ms rs
-      (omega (arith, how-many, how-many-marks, h .limits .some))
+      (omega (arith, how-many, how-many-marks, h .room .some))
       (omega (arith, how-many, how-many-rows))
       (h .text .chars)
       (h .rows-are .rows)
@@ -491,14 +419,14 @@ module _ (r : Record) (d : Buffers) (cs : List ℕ) (ms : List Mark) (ts : List 
 
 -- where the test is true, the buffers hold what they spell
 pub is-sheet : (r : Record) (d : Buffers) → isSheet r d ≡ true → Sheet r d
-unfolding isSheet spell
+unfolding isSheet isLaid spell
 is-sheet r d e =
-    let (((((l, m), t), b), g), w) = simp and-eq-true-iff at e in
+    let ((l, m), (((t, b), g), w)) = simp and-eq-true-iff at e in
     let tags = rw (take-append-drop (r .g) (d .tag-bytes-buf)) at (tags-are _ (drop (r .g) (d .tag-bytes-buf)) 0 _ (omega arith) g) in
     let i : In r d _ _ _ _ =
     record {
       limits = limits-are r l;
-      room = room-is r d m;
+      room = room-is r d l m;
       text = text-is _ _ _ _ t;
       marks-are = marks-are _ b;
       tags = tags;
