@@ -44,15 +44,20 @@ pub fn find(s: &[u8], from: usize, b: u8) -> usize
     s.len()
 }
 
-// The field with a number, counted from 0.
-pub fn field<'a>(line: &'a [u8], k: usize) -> &'a [u8] {
+// The item with a number, counted from 0, of those that a byte joins.
+pub fn item<'a>(s: &'a [u8], k: usize, joint: u8) -> &'a [u8] {
     let mut from = 0;
     let mut left = k;
     while left > 0 {
-        from = find(line, from, b' ') + 1;
+        from = find(s, from, joint) + 1;
         left -= 1;
     }
-    part(line, from, find(line, from, b' '))
+    part(s, from, find(s, from, joint))
+}
+
+// The field with a number, counted from 0.
+pub fn field<'a>(line: &'a [u8], k: usize) -> &'a [u8] {
+    item(line, k, b' ')
 }
 
 // The digit that a byte spells, and 10 where it spells none.

@@ -7,6 +7,7 @@ mod sink;
 pub use fields::field;
 pub use fields::find;
 pub use fields::first;
+pub use fields::item;
 pub use fields::number;
 pub use fields::part;
 pub use fields::part16;

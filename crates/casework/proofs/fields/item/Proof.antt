@@ -1,12 +1,12 @@
 use borrow.Author.Needs.{needs}
-use Rattle.casework.proofs.fields.field.Statement.{statement}
-use Rattle.casework.proofs.fields.field.Tie as tie
+use Rattle.casework.proofs.fields.item.Statement.{statement}
+use Rattle.casework.proofs.fields.item.Tie as tie
 
 abbrev Inv-loop : tie.InvT-loop
-Inv-loop line k from₀ left₀ from left = Unit {0}
+Inv-loop s k joint from₀ left₀ from left = Unit {0}
 
 abbrev μ-loop : tie.MeasureT-loop
-μ-loop line k from₀ left₀ from left = left
+μ-loop s k joint from₀ left₀ from left = left
 
 loop-holds : tie.Need-loop-holds Inv-loop μ-loop
 loop-holds c = search needs
@@ -35,8 +35,8 @@ part-requires c κs = search needs
 returns : tie.Need-returns Inv-loop μ-loop
 returns c = search needs
 
-pub field-spec : {M : Type 1} → statement M
-field-spec =
+pub item-spec : {M : Type 1} → statement M
+item-spec =
     tie.close
     (tie.spec
     Inv-loop
