@@ -8,6 +8,8 @@ ghost use lib.Dec.{leb};
 ghost use Rattle.sheet.specs.Layout.{buffers};
 ghost use Rattle.changes.specs.Changes.{DefaultSet};
 
+pub mod given;
+
 // Whether buffers of these lengths have the one-blank sentence's room; boundaries and tags need none.
 fn blank_fits(text: usize, types: usize, char_pos: usize, byte_pos: usize, row_ends: usize) -> bool
     ensures { λ r. ⌜ r ≡ (leb 1 text && leb 1 types && leb 2 «char_pos» && leb 2 «byte_pos» && leb 1 «row_ends») ⌝ }

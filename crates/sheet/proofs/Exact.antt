@@ -17,7 +17,7 @@ use Rattle.types.specs.TypeOf.{typeOf}
 use Rattle.sentence.specs.Sentence.{Tag, Mark, none, word, unknown, code, Cells, Sentence, textOf, marksOf, rowsOf, text, marks, rows, types, charPositions, bytePositions, onto, cut, listed, rowBytes, tagBytes, Char, Row, CellsOf, Formed}
 use Rattle.sheet.specs.declared.Record.{Record}
 use Rattle.sheet.specs.Layout.{Buffers, recordOf, tagsOf, rowEnds, tagEnds, bytesOf, lay, roomFor, Front, Holds, pieces, markOf, link, spell, Sheet}
-use Rattle.sheet.specs.Check.{inLimits, same, noNul, isPlain, isText, areMarks, areTags, present, areRows, isSheet}
+use Rattle.sheet.specs.Check.{inLimits, same, noNul, isPlain, isText, areMarks, chain, isTag, areTags, present, isRow, areRows, isLaid, Room, isSheet}
 use Rattle.sheet.proofs.Held.{length-marks, length-rowEnds, length-tagEnds, length-tagsOf, length-bytesOf, bytes-tagsOf, n-held, b-held, columns-held, k-held, g-held, text-held, types-held, boundaries-held, char-pos-held, byte-pos-held, row-ends-held, tag-ends-held, tag-bytes-held, text-chars-held, rows-held, tags-chars-held}
 
 -- ---- lists of which a test says that they are the same
@@ -115,7 +115,7 @@ unfolding tagEnds bytesOf
 tags-none s g e = record { ends = refl; bytes = sym (rw e (drop-length s)); chars = tt }
 
 tags-are : (s x : List ℕ) (g : ℕ) (es : List ℕ) → g ≤ length s → areTags s g es ≡ true → TagsAre s g es (map scalars (pieces g es (drop g s ++ x)))
-unfolding areTags pieces
+unfolding chain isTag pieces
 tags-are s x g [] h e = tags-none s g (eqb-true g (length s) e)
 tags-are s x g (e ∷ es) h k =
     let (((a, b), p), rest) = simp and-eq-true-iff at k in
@@ -126,7 +126,7 @@ tags-are s x g (e ∷ es) h k =
     (tags-more s g e es _ u v (plain-is _ p) (tags-are s x e es v rest))
 
 are-tags : (s : List ℕ) (g : ℕ) (ts : List Tag) → All (All Char) ts → drop g s ≡ bytesOf ts → g + rowBytes ts ≡ length s → areTags s g (tagEnds g ts) ≡ true
-unfolding areTags tagEnds bytesOf rowBytes
+unfolding chain isTag tagEnds bytesOf rowBytes
 are-tags s g [] a e h = eq-eqb g (length s) (omega arith)
 are-tags s g (t ∷ ts) a e h =
     let n : length (encodes t) ≡ g + size t - g = omega (arith, length-encodes t) in
@@ -231,7 +231,7 @@ unfolding rowEnds tagsOf
 rows-none n ts k e = record { ends = refl; tags = sym (rw e (drop-length ts)); rows = tt }
 
 rows-of : (n : ℕ) (ts : List Tag) (k : ℕ) (es : List ℕ) → All (All Char) ts → k ≤ length ts → areRows n (tagEnds 0 ts) k es ≡ true → RowsAre n ts k es (pieces k es (drop k ts))
-unfolding areRows pieces
+unfolding chain isRow pieces
 rows-of n ts k [] a h e = rows-none n ts k (eqb-true k _ e ∙ length-tagEnds 0 ts)
 rows-of n ts k (e ∷ es) a h t =
     let ((((p, q), f), c), rest) = simp and-eq-true-iff at t in
@@ -241,7 +241,7 @@ rows-of n ts k (e ∷ es) a h t =
     (rows-more n ts k e es _ u v (row-is n ts k e a u v (leb-true (e - k) n f) c) (rows-of n ts e es a v rest))
 
 are-rows : (n : ℕ) (ts : List Tag) (k : ℕ) (rs : List (List Tag)) → All (Row n) rs → drop k ts ≡ tagsOf rs → k + listed rs ≡ length ts → areRows n (tagEnds 0 ts) k (rowEnds k rs) ≡ true
-unfolding areRows rowEnds tagsOf listed
+unfolding chain isRow rowEnds tagsOf listed
 are-rows n ts k [] a e h = eq-eqb k _ (omega (arith, length-tagEnds 0 ts))
 are-rows n ts k (r ∷ rs) a e h =
     let z : length r ≡ k + length r - k = omega arith in
@@ -284,7 +284,6 @@ linked n (c ∷ d ∷ cs) (m ∷ ms) (r ∷ rs) e f a b =
 
 -- ---- what the tests say of the record, the room and the text
 pub record Limits (r : Record) : Type 0 where
-  pub some : 1 ≤ r .n
   pub few-bytes : r .b ≤ 4096
   pub few-columns : r .columns ≤ 4096
   pub few-tags : r .k ≤ 65535
@@ -294,18 +293,8 @@ pub limits-are : (r : Record) → inLimits r ≡ true → Limits r
 unfolding inLimits
 limits-are r = simp reads (omega arith)
 
-pub record Room (r : Record) (d : Buffers) : Type 0 where
-  pub text-room : r .b ≤ length (d .text-buf)
-  pub types-room : r .n ≤ length (d .types-buf)
-  pub boundaries-room : r .n - 1 ≤ length (d .boundaries-buf)
-  pub char-pos-room : r .n + 1 ≤ length (d .char-pos-buf)
-  pub byte-pos-room : r .b + 1 ≤ length (d .byte-pos-buf)
-  pub row-ends-room : r .n ≤ length (d .row-ends-buf)
-  pub tag-ends-room : r .k ≤ length (d .tag-ends-buf)
-  pub tag-bytes-room : r .g ≤ length (d .tag-bytes-buf)
-
-pub room-is : (r : Record) (d : Buffers) → roomFor r d ≡ true → Room r d
-unfolding roomFor
+pub room-is : (r : Record) (d : Buffers) → inLimits r ≡ true → roomFor r d ≡ true → Room r d
+unfolding inLimits roomFor
 room-is r d = simp reads (omega arith)
 
 record TextIs (s ys ps qs cs : List ℕ) : Type 0 where
@@ -384,7 +373,7 @@ module _ (r : Record) (d : Buffers) (s : Sentence) (h : Holds r d s) where
       (are-rows (s .columns) ts 0 (rows s) (rows-held h) refl (omega (arith, length-tagsOf (rows s))))
 
   pub holds-is : isSheet r d ≡ true
-  unfolding isSheet
+  unfolding isSheet isLaid
   holds-is = rw (limits-hold, room-holds, text-holds, boundaries-held h .is, are-marks (marks s), tags-hold, rows-hold)
 
 -- where the test is false, no sentence is held
@@ -444,7 +433,7 @@ module _ (r : Record) (d : Buffers) (cs : List ℕ) (ms : List Mark) (ts : List 
   are-linked : Linked (r .columns) cs ms rs (link cs ms rs)
   are-linked =
       linked (r .columns) cs ms rs
-      (omega (arith, how-many, how-many-marks, h .limits .some))
+      (omega (arith, how-many, how-many-marks, h .room .some))
       (omega (arith, how-many, how-many-rows))
       (h .text .chars)
       (h .rows-are .rows)
@@ -491,14 +480,14 @@ module _ (r : Record) (d : Buffers) (cs : List ℕ) (ms : List Mark) (ts : List 
 
 -- where the test is true, the buffers hold what they spell
 pub is-sheet : (r : Record) (d : Buffers) → isSheet r d ≡ true → Sheet r d
-unfolding isSheet spell
+unfolding isSheet isLaid spell
 is-sheet r d e =
-    let (((((l, m), t), b), g), w) = simp and-eq-true-iff at e in
+    let ((l, m), (((t, b), g), w)) = simp and-eq-true-iff at e in
     let tags = rw (take-append-drop (r .g) (d .tag-bytes-buf)) at (tags-are _ (drop (r .g) (d .tag-bytes-buf)) 0 _ (omega arith) g) in
     let i : In r d _ _ _ _ =
     record {
       limits = limits-are r l;
-      room = room-is r d m;
+      room = room-is r d l m;
       text = text-is _ _ _ _ t;
       marks-are = marks-are _ b;
       tags = tags;

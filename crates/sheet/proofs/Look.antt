@@ -4,33 +4,42 @@ use native.Mathlib.Numerals.{add-one}
 use native.Mathlib.Decide.{decLt}
 use native.Mathlib.Omega.{arith}
 use mathlib.Core.Path.{_≡_, refl, sym, ap, _∙_}
+use mathlib.Core.Bool.{Bool, true, false, not}
 use mathlib.Core.List.{List, [], _∷_, _++_, append-nil, append-assoc}
-use lib.ListN.{length, getD, take, drop, replicate, length-append, length-take, length-drop, length-map, length-replicate, getD-replicate, take-append-drop, drop-of-length-le, List·getD-append, List·getD-map}
-use lib.Seq.{take-suc, drop-cons, take-add, take-take, take-nil, drop-nil, take-length, take-at, drop-at, take-append-le, drop-append-le, getD-take, getD-drop, getD-append-add}
+use lib.ListN.{length, getD, take, drop, replicate, length-append, length-drop, length-replicate, getD-replicate, take-append-drop, drop-of-length-le, List·getD-append, List·getD-map}
+use lib.Seq.{length-take-le, take-suc, drop-cons, take-add, take-take, take-nil, take-length, take-at, drop-at, take-append-le, drop-append-le, getD-take, getD-drop, getD-append-add}
+use borrow.Author.Tests.{not-false}
+use Rattle.laws.specs.If.{if_then_else_}
 use Rattle.laws.specs.All.{All}
 use Rattle.utf8.specs.Utf8.{decodeAt, width, encodes, size}
 use Rattle.utf8.specs.declared.Decoded.the-variants.{Char}
 use Rattle.utf8.proofs.Codec.{length-encodes, encodes-append, size-append, width-small, decode-encode}
-use Rattle.types.specs.TypeOf.{typeOf}
 use Rattle.sentence.specs.Sentence.{Tag, Mark, none, word, unknown, code, Sentence, text, marks, rows, starts, numbers, listed, rowBytes, tagBytes, Row}
 use Rattle.sentence.specs.Sentence as SC
+use Rattle.sentence.specs.declared.Refusal.{Refusal}
+use Rattle.sentence.specs.Refusals.{refusal, Check, check, verdict, sheetOrder}
 use Rattle.sentence.specs.Writing.{surface}
 use Rattle.sheet.specs.declared.Record.{Record}
-use Rattle.sheet.specs.Layout.{Buffers, recordOf, tagsOf, rowEnds, tagEnds, bytesOf, lay, Front, Holds, markOf}
-use Rattle.sheet.proofs.Held.{length-marks, length-rows, length-rowEnds, length-tagEnds, length-tagsOf, text-chars, rows-are}
+use Rattle.sheet.specs.Layout.{Buffers, tagsOf, rowEnds, tagEnds, bytesOf, Holds, Sheet, markOf}
+use Rattle.sheet.specs.Check.{isSheet}
+use Rattle.sheet.proofs.Exact.{is-sheet}
+use Rattle.sheet.proofs.Held.{Part, length-marks, length-rows, length-tagsOf, length-bytesOf, bytes-tagsOf, n-held, b-held, columns-held, k-held, g-held, text-held, types-held, boundaries-held, char-pos-held, byte-pos-held, row-ends-held, tag-ends-held, tag-bytes-held, text-chars-held, rows-held}
 
--- ---- a buffer that starts with a part
-pub front-long : (part d : List ℕ) → Front part d → length part ≤ length d
-front-long part d e = omega (arith, length-take (length part) d, ap length e)
+-- ---- a buffer that starts with a part of n elements
+pub part-at : {n : ℕ} {part d : List ℕ} → Part n part d → (i : ℕ) → i < n → getD d i 0 ≡ getD part i 0
+part-at {n} {part} {d} p i h = sym (getD-take n d i 0 h) ∙ ap (λ (l : List ℕ). getD l i 0) (p .is)
 
-pub front-at : (part d : List ℕ) (i : ℕ) → Front part d → i < length part → getD d i 0 ≡ getD part i 0
-front-at part d i e h = sym (getD-take (length part) d i 0 h) ∙ ap (λ (l : List ℕ). getD l i 0) e
+pub part-whole : {n : ℕ} {part d : List ℕ} → Part n part d → part ++ drop n d ≡ d
+part-whole {n} {part} {d} p = rw (p .is) at (take-append-drop n d)
 
-pub front-part : (part d : List ℕ) (b n : ℕ) → Front part d → b + n ≤ length part → take n (drop b d) ≡ take n (drop b part)
-front-part part d b n e h =
-    let whole : part ++ drop (length part) d ≡ d = rw e at (take-append-drop (length part) d) in
-    rw (← whole, drop-append-le b part (drop (length part) d) (omega arith))
-    (take-append-le n (drop b part) (drop (length part) d) (omega (arith, length-drop b part)))
+pub part-length : {n : ℕ} {part d : List ℕ} → Part n part d → length part ≡ n
+part-length {n} {part} {d} p = rw (p .is) at (length-take-le n d (p .fits))
+
+pub part-of : {n : ℕ} {part d : List ℕ} → Part n part d → (b k : ℕ) → b + k ≤ n → take k (drop b d) ≡ take k (drop b part)
+part-of {n} {part} {d} p b k h =
+    let l = part-length p in
+    ap (λ (m : List ℕ). take k (drop b m)) (sym (part-whole p))
+    ∙ rw (drop-append-le b part (drop n d) (omega arith)) (take-append-le k (drop b part) (drop n d) (omega (arith, length-drop b part)))
 
 -- ---- parts of a list that is made of the parts of another, one after the other
 module _ {A B : Type 0} (F : List A → List B) (n : List A → ℕ) (joins : (us vs : List A) → F (us ++ vs) ≡ F us ++ F vs) (long : (us : List A) → length (F us) ≡ n us) where
@@ -51,6 +60,10 @@ module _ {A B : Type 0} (F : List A → List B) (n : List A → ℕ) (joins : (u
   rest : (l : List A) (b : ℕ) → drop (n (take b l)) (F l) ≡ F (drop b l)
   rest l b = ap (λ (m : List A). drop (n (take b l)) (F m)) (sym (take-append-drop b l)) ∙ rw (joins (take b l) (drop b l)) (drop-at (F (take b l)) (F (drop b l)) (n (take b l)) (long (take b l)))
 
+  -- all before the b-th
+  before : (l : List A) (b : ℕ) → take (n (take b l)) (F l) ≡ F (take b l)
+  before l b = ap (λ (m : List A). take (n (take b l)) (F m)) (sym (take-append-drop b l)) ∙ rw (joins (take b l) (drop b l)) (take-at (F (take b l)) (F (drop b l)) (n (take b l)) (long (take b l)))
+
   within : (l : List A) (i : ℕ) → n (take i l) ≤ n l
   within l i = omega (arith, sum (take i l) (drop i l), ap n (take-append-drop i l))
 
@@ -65,7 +78,7 @@ module _ {A : Type 0} (z : A) where
 -- a part from b up to e, as a loop has what is left of it
 pub part-left : {A : Type 0} (l : List A) (b e : ℕ) → drop b (take e l) ≡ take (e - b) (drop b l)
 part-left l zero e = let f : e - 0 ≡ e = omega arith in rw f
-part-left [] (suc b) e = rw (take-nil, drop-nil, take-nil)
+part-left [] (suc b) e = rw (take-nil e, take-nil (e - suc b))
 part-left (x ∷ l) (suc b) zero = let f : 0 - suc b ≡ 0 = omega arith in rw f
 part-left (x ∷ l) (suc b) (suc e) = let f : suc e - suc b ≡ e - b = omega arith in rw f (part-left l b e)
 
@@ -96,11 +109,6 @@ unfolding bytesOf
 bytes-joined [] vs = refl
 bytes-joined (u ∷ us) vs = rw (bytes-joined us vs, append-assoc)
 
-pub length-bytesOf : (ts : List Tag) → length (bytesOf ts) ≡ rowBytes ts
-unfolding bytesOf rowBytes
-length-bytesOf [] = refl
-length-bytesOf (t ∷ ts) = rw (length-append, length-encodes, length-bytesOf ts)
-
 pub listed-before : (rs : List (List Tag)) (i : ℕ) → listed (take i rs) ≤ listed rs
 listed-before = within tagsOf listed tags-joined length-tagsOf
 
@@ -114,12 +122,6 @@ tag-bytes-before = within bytesOf rowBytes bytes-joined length-bytesOf
 pub tag-bytes-next : (ts : List Tag) (j : ℕ) → j < length ts → rowBytes (take (j + 1) ts) ≡ rowBytes (take j ts) + size (getD ts j [])
 unfolding rowBytes
 tag-bytes-next ts j h = rw (more [] ts j h, sum bytesOf rowBytes bytes-joined length-bytesOf) (omega arith)
-
--- the bytes of all rows are those of all listed tags
-pub all-tag-bytes : (rs : List (List Tag)) → rowBytes (tagsOf rs) ≡ tagBytes rs
-unfolding tagsOf rowBytes tagBytes
-all-tag-bytes [] = refl
-all-tag-bytes (r ∷ rs) = rw (sum bytesOf rowBytes bytes-joined length-bytesOf, all-tag-bytes rs)
 
 -- a row among the listed tags, and a tag of it
 pub row-among : (rs : List (List Tag)) (i : ℕ) → i < length rs
@@ -135,12 +137,21 @@ tag-among rs i c h k =
     ∙ sym (getD-take (length (getD rs i [])) (drop (listed (take i rs)) (tagsOf rs)) c [] k)
     ∙ ap (λ (l : List Tag). getD l c []) (row-among rs i h)
 
--- ---- the four lists of positions and ends
-pub length-starts : (at : ℕ) (cs : List ℕ) → length (starts at cs) ≡ length cs + 1
-unfolding starts
-length-starts at [] = refl
-length-starts at (c ∷ cs) = omega (arith, length-starts (at + width c) cs)
+-- the bytes of the tags before the c-th of the i-th row: those of the rows before, and those before it in its row
+pub bytes-among : (rs : List (List Tag)) (i c : ℕ) → i < length rs → c ≤ length (getD rs i [])
+    → rowBytes (take (listed (take i rs) + c) (tagsOf rs)) ≡ tagBytes (take i rs) + rowBytes (take c (getD rs i []))
+bytes-among rs i c h k =
+    let e = row-among rs i h in
+    let f : take c (drop (listed (take i rs)) (tagsOf rs)) ≡ take c (getD rs i []) = rw e at (sym (take-take c (length (getD rs i [])) (drop (listed (take i rs)) (tagsOf rs)) k)) in
+    rw (
+      take-add (listed (take i rs)) c (tagsOf rs),
+      before tagsOf listed tags-joined length-tagsOf rs i,
+      f,
+      sum bytesOf rowBytes bytes-joined length-bytesOf (tagsOf (take i rs)) (take c (getD rs i [])),
+      bytes-tagsOf (take i rs),
+    )
 
+-- ---- the four lists of positions and ends
 pub start-is : (at : ℕ) (cs : List ℕ) (i : ℕ) → i ≤ length cs → getD (starts at cs) i 0 ≡ at + size (take i cs)
 unfolding starts size
 start-is at [] zero h = omega arith
@@ -154,11 +165,6 @@ inner c = replicate (width c - 1) 0
 
 length-inner : (c : ℕ) → length (inner c) ≡ width c - 1
 length-inner c = length-replicate (width c - 1) 0
-
-pub length-numbers : (k : ℕ) (cs : List ℕ) → length (numbers k cs) ≡ size cs + 1
-unfolding numbers size
-length-numbers k [] = refl
-length-numbers k (c ∷ cs) = rw (length-append, length-inner c) (omega (arith, length-numbers (k + 1) cs, width-small c))
 
 -- past the first character
 number-past : (k c : ℕ) (cs : List ℕ) (p : ℕ) → getD (numbers k (c ∷ cs)) (width c + p) 0 ≡ getD (numbers (k + 1) cs) p 0
@@ -253,102 +259,82 @@ pub record Bounds (r : Record) (d : Buffers) (s : Sentence) : Type 0 where
 
 module _ {r : Record} {d : Buffers} {s : Sentence} (h : Holds r d s) where
   pub bounds : Bounds r d s
-  unfolding recordOf lay
   bounds =
-      let n-is : r .n ≡ length (text s) = rw (h .record-is) in
-      let b-is : r .b ≡ size (text s) = rw (h .record-is) in
-      let k-is : r .k ≡ listed (rows s) = rw (h .record-is) in
-      let g-is : r .g ≡ tagBytes (rows s) = rw (h .record-is) in
-      let c-is : r .columns ≡ s .columns = rw (h .record-is) in
-      let marks-long = length-marks (s .cells) in
-      let rows-long = length-rows (s .cells) in
+      let n-is = n-held h in
+      let b-is = b-held h in
+      let k-is = k-held h in
+      let g-is = g-held h in
+      let c-is = columns-held h in
       record {
         n-is = n-is;
         b-is = b-is;
         columns-is = c-is;
         k-is = k-is;
         g-is = g-is;
-        marks-long = omega arith;
-        rows-long = omega arith;
+        marks-long = omega (arith, length-marks (s .cells));
+        rows-long = omega (arith, length-rows (s .cells));
         tags-long = omega (arith, length-tagsOf (rows s));
-        tags-size = omega (arith, all-tag-bytes (rows s));
-        n-some = omega arith;
+        tags-size = omega (arith, bytes-tagsOf (rows s));
+        n-some = omega (arith, length-marks (s .cells));
         n-few = omega (arith, some-bytes (text s));
         b-few = omega (arith, h .formed .text-fits);
         columns-few = omega (arith, h .formed .columns-fit);
         k-few = omega (arith, h .formed .tags-fit);
         g-few = omega (arith, h .formed .bytes-fit);
-        text-room = omega (arith, front-long _ _ (h .text-at), length-encodes (text s));
-        types-room = omega (arith, front-long _ _ (h .types-at), length-map (text s) typeOf);
-        boundaries-room = omega (arith, front-long _ _ (h .boundaries-at), length-map (marks s) code);
-        char-pos-room = omega (arith, front-long _ _ (h .char-pos-at), length-starts 0 (text s));
-        byte-pos-room = omega (arith, front-long _ _ (h .byte-pos-at), length-numbers 0 (text s));
-        row-ends-room = omega (arith, front-long _ _ (h .row-ends-at), length-rowEnds 0 (rows s));
-        tag-ends-room = omega (arith, front-long _ _ (h .tag-ends-at), length-tagEnds 0 (tagsOf (rows s)), length-tagsOf (rows s));
-        tag-bytes-room = omega (arith, front-long _ _ (h .tag-bytes-at), length-bytesOf (tagsOf (rows s)), all-tag-bytes (rows s));
+        text-room = text-held h .fits;
+        types-room = types-held h .fits;
+        boundaries-room = boundaries-held h .fits;
+        char-pos-room = char-pos-held h .fits;
+        byte-pos-room = byte-pos-held h .fits;
+        row-ends-room = row-ends-held h .fits;
+        tag-ends-room = tag-ends-held h .fits;
+        tag-bytes-room = tag-bytes-held h .fits;
       }
 
   -- ---- what stands at an index
   pub char-pos-is : (i : ℕ) → i ≤ r .n → getD (d .char-pos-buf) i 0 ≡ size (take i (text s))
-  unfolding lay
-  char-pos-is i k =
-      front-at _ _ i (h .char-pos-at) (omega (arith, bounds, length-starts 0 (text s)))
-      ∙ start-is 0 (text s) i (omega (arith, bounds))
-      ∙ omega arith
+  char-pos-is i k = part-at (char-pos-held h) i (omega arith) ∙ start-is 0 (text s) i (omega (arith, bounds)) ∙ omega arith
 
   pub byte-pos-is : (i : ℕ) → i ≤ r .n → getD (d .byte-pos-buf) (size (take i (text s))) 0 ≡ i
-  unfolding lay
   byte-pos-is i k =
-      front-at _ _ (size (take i (text s))) (h .byte-pos-at) (omega (arith, bounds, length-numbers 0 (text s), bytes-before (text s) i))
+      part-at (byte-pos-held h) (size (take i (text s))) (omega (arith, bounds, bytes-before (text s) i))
       ∙ number-is 0 (text s) i (omega (arith, bounds))
       ∙ omega arith
 
   -- also inside a character
   pub byte-pos-small : (p : ℕ) → p ≤ r .b → getD (d .byte-pos-buf) p 0 ≤ r .n
-  unfolding lay
-  byte-pos-small p k =
-      omega (arith, bounds, front-at _ _ p (h .byte-pos-at) (omega (arith, bounds, length-numbers 0 (text s))), number-small 0 (text s) p)
+  byte-pos-small p k = omega (arith, bounds, part-at (byte-pos-held h) p (omega arith), number-small 0 (text s) p)
 
   pub boundary-is : (i : ℕ) → i < r .n - 1 → getD (d .boundaries-buf) i 0 ≡ code (getD (marks s) i none)
-  unfolding lay code
-  boundary-is i k = front-at _ _ i (h .boundaries-at) (omega (arith, bounds, length-map (marks s) code)) ∙ List·getD-map code (marks s) i none
+  unfolding code
+  boundary-is i k = part-at (boundaries-held h) i k ∙ List·getD-map code (marks s) i none
 
   pub row-end-is : (i : ℕ) → i < r .n → getD (d .row-ends-buf) i 0 ≡ listed (take (i + 1) (rows s))
-  unfolding lay
-  row-end-is i k =
-      front-at _ _ i (h .row-ends-at) (omega (arith, bounds, length-rowEnds 0 (rows s)))
-      ∙ row-end 0 (rows s) i (omega (arith, bounds))
-      ∙ omega arith
+  row-end-is i k = part-at (row-ends-held h) i k ∙ row-end 0 (rows s) i (omega (arith, bounds)) ∙ omega arith
 
   pub tag-end-is : (j : ℕ) → j < r .k → getD (d .tag-ends-buf) j 0 ≡ rowBytes (take (j + 1) (tagsOf (rows s)))
-  unfolding lay
-  tag-end-is j k =
-      front-at _ _ j (h .tag-ends-at) (omega (arith, bounds, length-tagEnds 0 (tagsOf (rows s))))
-      ∙ tag-end 0 (tagsOf (rows s)) j (omega (arith, bounds))
-      ∙ omega arith
+  tag-end-is j k = part-at (tag-ends-held h) j k ∙ tag-end 0 (tagsOf (rows s)) j (omega (arith, bounds)) ∙ omega arith
 
   -- ---- parts of the text and of the tag bytes
   -- the bytes of the characters from b up to e
   pub text-part : (b e : ℕ) → b ≤ e → e ≤ r .n
       → take (size (take e (text s)) - size (take b (text s))) (drop (size (take b (text s))) (d .text-buf)) ≡ encodes (surface s b e)
-  unfolding lay
   text-part b e k l =
       let f : b + (e - b) ≡ e = omega arith in
-      let p = rw f at (part encodes size encodes-append length-encodes (text s) b (e - b)) in
-      front-part _ _ (size (take b (text s))) (size (take e (text s)) - size (take b (text s))) (h .text-at)
-      (omega (arith, bounds, length-encodes (text s), bytes-before (text s) e, bytes-more (text s) b e k))
-      ∙ p
+      part-of (text-held h) (size (take b (text s))) (size (take e (text s)) - size (take b (text s)))
+      (omega (arith, bounds, bytes-before (text s) e, bytes-more (text s) b e k))
+      ∙ (rw f at (part encodes size encodes-append length-encodes (text s) b (e - b)))
 
   -- the bytes of the j-th listed tag
   pub tag-part : (j : ℕ) → j < r .k
       → take (size (getD (tagsOf (rows s)) j [])) (drop (rowBytes (take j (tagsOf (rows s)))) (d .tag-bytes-buf)) ≡ encodes (getD (tagsOf (rows s)) j [])
-  unfolding lay bytesOf
+  unfolding bytesOf
   tag-part j k =
       let ts = tagsOf (rows s) in
       let l : j < length ts = omega (arith, bounds) in
       let n = tag-bytes-next ts j l in
       let f : rowBytes (take (j + 1) ts) - rowBytes (take j ts) ≡ size (getD ts j []) = omega arith in
-      front-part _ _ (rowBytes (take j ts)) (size (getD ts j [])) (h .tag-bytes-at) (omega (arith, length-bytesOf ts, tag-bytes-before ts (j + 1)))
+      part-of (tag-bytes-held h) (rowBytes (take j ts)) (size (getD ts j [])) (omega (arith, bounds, tag-bytes-before ts (j + 1)))
       ∙ (rw (f, left [] ts j l, append-nil) at (part bytesOf rowBytes bytes-joined length-bytesOf ts j 1))
 
   -- ---- steps of a loop that goes by characters and boundaries
@@ -366,13 +352,13 @@ module _ {r : Record} {d : Buffers} {s : Sentence} (h : Holds r d s) where
 
   -- where the i-th character starts it is decoded, and the next starts behind it
   pub text-char : (i : ℕ) → i < r .n → decodeAt (d .text-buf) (size (take i (text s))) ≡ Char (getD (text s) i 0) (width (getD (text s) i 0))
-  unfolding lay decodeAt encodes
+  unfolding decodeAt encodes
   text-char i k =
-      let whole : encodes (text s) ++ drop (length (encodes (text s))) (d .text-buf) ≡ d .text-buf = rw (h .text-at) at (take-append-drop (length (encodes (text s))) (d .text-buf)) in
-      let c = all-at SC.Char 0 (text s) i (text-chars (s .columns) (s .cells) (h .formed .cells-are)) (omega (arith, bounds)) in
+      let at = size (take i (text s)) in
+      let c = all-at SC.Char 0 (text s) i (text-chars-held h) (omega (arith, bounds)) in
       rw (
-        ← whole,
-        drop-append-le (size (take i (text s))) (encodes (text s)) (drop (length (encodes (text s))) (d .text-buf)) (omega (arith, length-encodes (text s), bytes-before (text s) i)),
+        ← (part-whole (text-held h)),
+        drop-append-le at (encodes (text s)) (drop (r .b) (d .text-buf)) (omega (arith, length-encodes (text s), bytes-before (text s) i)),
         rest encodes size encodes-append length-encodes (text s) i,
         text-step i k,
         append-assoc,
@@ -405,4 +391,34 @@ module _ {r : Record} {d : Buffers} {s : Sentence} (h : Holds r d s) where
   -- a row lists at most as many tags as there are columns
   pub row-fits : (i : ℕ) → i < r .n → length (getD (rows s) i []) ≤ r .columns
   row-fits i k =
-      omega (arith, bounds, all-at (Row (s .columns)) [] (rows s) i (rows-are (s .columns) (s .cells) (h .formed .cells-are)) (omega (arith, bounds)) .fits)
+      omega (arith, bounds, all-at (Row (s .columns)) [] (rows s) i (rows-held h) (omega (arith, bounds)) .fits)
+
+-- ---- the answers of a call that goes by whether there is a sheet: g is what the check answered, `out` whether a number is out of range
+module _ {A : Type 0} (refuse : Refusal → A) (g good out : Bool) (first : ℕ) (served : A) (e : g ≡ good) where
+  pub broken : not g ≡ true → refuse (refusal 13 0) ≡ verdict refuse (sheetOrder (not good) out first false 0) served
+  unfolding verdict if_then_else_
+  broken h = rw (← e, h)
+
+  pub outside : not g ≡ false → out ≡ true → refuse (refusal 14 first) ≡ verdict refuse (sheetOrder (not good) out first false 0) served
+  unfolding verdict if_then_else_
+  outside h o = rw (← e, h, o)
+
+  pub inside : not g ≡ false → out ≡ false → (a : A) → a ≡ served → a ≡ verdict refuse (sheetOrder (not good) out first false 0) served
+  unfolding verdict if_then_else_
+  inside h o a s = s ∙ rw (← e, h, o)
+
+-- what a check that was passed says
+pub checked : (r : Record) (d : Buffers) (g : Bool) → g ≡ isSheet r d → not g ≡ false → Sheet r d
+checked r d g e h = is-sheet r d (sym e ∙ not-false g h)
+
+-- the checks that an answer passed which is no refusal
+abbrev pub Passed : List Check → Type 0
+Passed [] = Unit {0}
+Passed (check b n p ∷ cs) = (b ≡ false) × Passed cs
+
+pub passed : {A : Type 0} (refuse : Refusal → A) (a : A) → ((x : Refusal) → refuse x ≡ a → ⊥)
+    → (cs : List Check) (served : A) → verdict refuse cs served ≡ a → Passed cs × (served ≡ a)
+unfolding verdict if_then_else_
+passed refuse a apart [] served e = (tt, e)
+passed refuse a apart (check true n p ∷ cs) served e = absurd (apart _ e)
+passed refuse a apart (check false n p ∷ cs) served e = let k = passed refuse a apart cs served e in ((refl, k .0), k .1)

@@ -1,5 +1,6 @@
 -- Whether a record and buffers are a sheet: the limits, the room, then a test for each pass over what the record counts of the buffers.
-use Prim.Native.Nat.{ℕ, _+_, _-_}
+use Prim.Native.Nat.{ℕ, _+_, _-_, _≤_, _<_}
+use mathlib.Core.Path.{_≡_}
 use mathlib.Core.Bool.{Bool, true, false, not, _&&_, _||_}
 use mathlib.Core.List.{List, [], _∷_}
 use lib.Dec.{eqb, leb, ltb}
@@ -20,6 +21,11 @@ same [] (y ∷ ys) = false
 same (x ∷ xs) [] = false
 same (x ∷ xs) (y ∷ ys) = eqb x y && same xs ys
 
+-- nothing but 0
+unfoldable pub zeros : List ℕ → Bool
+zeros [] = true
+zeros (x ∷ xs) = eqb x 0 && zeros xs
+
 -- no character is NUL
 unfoldable pub noNul : List ℕ → Bool
 noNul [] = true
@@ -37,30 +43,77 @@ isText s ys ps qs =
     && same (charPositions (scalars s)) ps
     && same (bytePositions (scalars s)) qs
 
+-- a character v of type t, the i-th, in the n bytes from `at` on: it is not NUL, and its type, its start and its number are told
+unfoldable pub isChar : ℕ → ℕ → ℕ → ℕ → ℕ → List ℕ → List ℕ → List ℕ → Bool
+isChar v t i at n ys ps qs =
+    not (eqb v 0)
+    && eqb t (getD ys i 0)
+    && eqb at (getD ps i 0)
+    && eqb i (getD qs at 0)
+    && zeros (take (at + n - (at + 1)) (drop (at + 1) qs))
+
+-- room for it
+pub record CharFits (i at n : ℕ) (ys ps qs : List ℕ) : Type 0 where
+  pub some : 1 ≤ n
+  pub types-fit : i < length ys
+  pub starts-fit : i < length ps
+  pub numbers-fit : at + n ≤ length qs
+
+-- one position more than types, and than bytes
+pub record Places (s ys ps qs : List ℕ) : Type 0 where
+  pub starts-long : length ps ≡ length ys + 1
+  pub numbers-long : length qs ≡ length s + 1
+
 -- each boundary is 0, 1 or 2
 unfoldable pub areMarks : List ℕ → Bool
 areMarks [] = true
 areMarks (m ∷ ms) = leb m 2 && areMarks ms
 
--- the tags from byte g on end where told: no end falls, the last is the last byte's, and each tag is UTF-8 without NUL
-unfoldable pub areTags : List ℕ → ℕ → List ℕ → Bool
-areTags s g [] = eqb g (length s)
-areTags s g (e ∷ es) = leb g e && leb e (length s) && isPlain (take (e - g) (drop g s)) && areTags s e es
+-- parts that end at es, the first from g on: each passes a test, and the last ends at a place told
+unfoldable pub chain : (ℕ → ℕ → Bool) → ℕ → ℕ → List ℕ → Bool
+chain test last g [] = eqb g last
+chain test last g (e ∷ es) = test g e && chain test last e es
+
+-- the bytes from g to e are a tag: UTF-8 without NUL
+unfoldable pub isTag : List ℕ → ℕ → ℕ → Bool
+isTag s g e = leb g e && leb e (length s) && isPlain (take (e - g) (drop g s))
+
+-- the tags from byte g on end at es, and the last with the bytes
+abbrev pub areTags : List ℕ → ℕ → List ℕ → Bool
+areTags s g es = chain (isTag s) (length s) g es
 
 -- the last of e tags, by their ends, has bytes
 unfoldable pub present : List ℕ → ℕ → Bool
 present ts e = ltb (getD (0 ∷ ts) (e - 1) 0) (getD (0 ∷ ts) e 0)
 
--- the rows from tag k on end where told: no end falls, the last is the last tag's, no row lists more than n tags, and each that lists any ends in a present one
-unfoldable pub areRows : ℕ → List ℕ → ℕ → List ℕ → Bool
-areRows n ts k [] = eqb k (length ts)
-areRows n ts k (e ∷ es) = leb k e && leb e (length ts) && leb (e - k) n && (eqb e k || present ts e) && areRows n ts e es
+-- the tags from k to e are a row of at most n, which is empty or ends in a present tag
+unfoldable pub isRow : ℕ → List ℕ → ℕ → ℕ → Bool
+isRow n ts k e = leb k e && leb e (length ts) && leb (e - k) n && (eqb e k || present ts e)
 
-unfoldable pub isSheet : Record → Buffers → Bool
-isSheet r d =
-    inLimits r
-    && roomFor r d
-    && isText (take (r .b) (d .text-buf)) (take (r .n) (d .types-buf)) (take (r .n + 1) (d .char-pos-buf)) (take (r .b + 1) (d .byte-pos-buf))
+-- the rows from tag k on end at es, and the last with the tags
+abbrev pub areRows : ℕ → List ℕ → ℕ → List ℕ → Bool
+areRows n ts k es = chain (isRow n ts) (length ts) k es
+
+-- what the record counts of the buffers is laid out as a sentence is
+unfoldable pub isLaid : Record → Buffers → Bool
+isLaid r d =
+    isText (take (r .b) (d .text-buf)) (take (r .n) (d .types-buf)) (take (r .n + 1) (d .char-pos-buf)) (take (r .b + 1) (d .byte-pos-buf))
     && areMarks (take (r .n - 1) (d .boundaries-buf))
     && areTags (take (r .g) (d .tag-bytes-buf)) 0 (take (r .k) (d .tag-ends-buf))
     && areRows (r .columns) (take (r .k) (d .tag-ends-buf)) 0 (take (r .n) (d .row-ends-buf))
+
+-- N is at least 1, and there is room for what the record counts
+pub record Room (r : Record) (d : Buffers) : Type 0 where
+  pub some : 1 ≤ r .n
+  pub text-room : r .b ≤ length (d .text-buf)
+  pub types-room : r .n ≤ length (d .types-buf)
+  pub boundaries-room : r .n - 1 ≤ length (d .boundaries-buf)
+  pub char-pos-room : r .n + 1 ≤ length (d .char-pos-buf)
+  pub byte-pos-room : r .b + 1 ≤ length (d .byte-pos-buf)
+  pub row-ends-room : r .n ≤ length (d .row-ends-buf)
+  pub tag-ends-room : r .k ≤ length (d .tag-ends-buf)
+  pub tag-bytes-room : r .g ≤ length (d .tag-bytes-buf)
+
+-- the record and the buffers are a sheet
+unfoldable pub isSheet : Record → Buffers → Bool
+isSheet r d = inLimits r && roomFor r d && isLaid r d

@@ -1,0 +1,2 @@
+// The boundary decision: boundaries by scores.
+pub mod given;
