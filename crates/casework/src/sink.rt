@@ -61,7 +61,7 @@ impl Sink {
     }
 
     // Puts a dot where there is nothing to list.
-    fn dot(self, out: &mut [u8], length: usize) -> Self {
+    pub fn dot(self, out: &mut [u8], length: usize) -> Self {
         if length == 0 {
             return self.put(out, b'.');
         }
