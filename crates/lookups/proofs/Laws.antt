@@ -2,11 +2,11 @@
 use Prim.Native.Nat.{ℕ, zero, suc, _+_, _-_, _≤_, _<_}
 use native.Mathlib.Omega.{arith}
 use mathlib.Core.Path.{_≡_, refl, sym, _∙_}
-use mathlib.Core.Bool.{true, false, _&&_}
+use mathlib.Core.Bool.{Bool, true, false, not, _&&_}
 use mathlib.Core.List.{List, [], _∷_}
 use mathlib.Core.Logic.{inr}
 use native.Mathlib.Numerals.{add-one}
-use borrow.Author.Tests.{eq-eqb, ne-eqb, le-ltb}
+use borrow.Author.Tests.{eq-eqb, ne-eqb, le-ltb, not-false}
 use lib.Dec.{leb}
 use lib.ListN.{length, getD, take, drop, List·getD-eq-default}
 use Rattle.laws.specs.If.{if_then_else_, if-true, if-false}
@@ -18,6 +18,7 @@ use Rattle.sentence.specs.Sentence.{Tag, Sentence, text, rows, charPositions, b
 use Rattle.sentence.specs.Refusals.{verdict}
 use Rattle.sheet.specs.Layout.{Buffers, tagsOf, Holds}
 use Rattle.sheet.specs.declared.Record.{Record}
+use Rattle.sheet.specs.declared.Number.{Number}
 use Rattle.sheet.specs.declared.Number.the-variants as number
 use Rattle.sheet.specs.declared.Part.{Part}
 use Rattle.sheet.specs.declared.Part.the-variants as part
@@ -44,6 +45,10 @@ part-absent l p q = rw q
 pub part-refused : (l : List ℕ) (p : Part) (x : Refusal) → p ≡ part.Refused x → [] ≡ bytesOf l p
 unfolding bytesOf
 part-refused l p x q = rw q
+
+-- ---- the answer where the check g was passed
+pub pos-good : (g good : Bool) (s : Sentence) (p : ℕ) (a : Number) → g ≡ good → not g ≡ false → a ≡ strToCharPos true s p → a ≡ strToCharPos good s p
+pos-good g good s p a e h f = let k : good ≡ true = sym e ∙ not-false g h in rw k f
 
 -- ---- a number that stands in a list stands at an index
 found-at : (l : List ℕ) (i p : ℕ) → i < length l → getD l i 0 ≡ p → found p l ≡ true
@@ -121,7 +126,7 @@ module _ {r : Record} {d : Buffers} {s : Sentence} (h : Holds r d s) where
   row-edge zero k = refl
   row-edge (suc i) k = rw add-one at (row-end-is h i (omega arith))
 
-  tag-edge : (j : ℕ) → j ≤ r .k → edge (d .tag-ends-buf) j ≡ rowBytes (take j (tagsOf (rows s)))
+  pub tag-edge : (j : ℕ) → j ≤ r .k → edge (d .tag-ends-buf) j ≡ rowBytes (take j (tagsOf (rows s)))
   unfolding rowBytes
   tag-edge zero k = refl
   tag-edge (suc j) k = rw add-one at (tag-end-is h j (omega arith))

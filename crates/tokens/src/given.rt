@@ -5,7 +5,7 @@ ghost use mathlib.Core.Path.{_≡_};
 ghost use Prim.Native.Nat.{_<_};
 ghost use lib.ListN.{length};
 ghost use Rattle.sentence.specs.Writing.{token, serves, nextToken, tokensFrom};
-ghost use Rattle.tokens.specs.Steps.{stepOf, marksIn, Bounded};
+ghost use Rattle.tokens.specs.Steps.{stepOf, marksIn, Bounded, spanIn};
 
 // The token from `start` to `end` as a step serves it.
 fn served(start: usize, end: usize) -> Step
@@ -18,7 +18,7 @@ fn served(start: usize, end: usize) -> Step
     })
 }
 
-// The first token from `p` on that has no unknown boundary; one is taken to begin at `p`.
+// The first token from `p` on that has no unknown boundary; one is taken to begin at `p`. A boundary is 0 none, 1 word, 2 unknown.
 pub fn next_token(boundaries: &[u8], n: usize, p: usize) -> Step
     requires { ⌜ Bounded n (now boundaries) ⌝ }
     ensures { λ r. ⌜ r ≡ stepOf (nextToken (marksIn n (now (boundaries .entry))) n p) ⌝ }
@@ -67,5 +67,16 @@ pub fn count_tokens(boundaries: &[u8], n: usize) -> usize
                 return count;
             }
         }
+    }
+}
+
+// The token that the step at `p` serves, or an empty one where it is done.
+pub fn token_from(boundaries: &[u8], n: usize, p: u16) -> Token
+    requires { ⌜ Bounded n (now boundaries) ⌝ }
+    ensures { λ r. ⌜ r ≡ spanIn (nextToken (marksIn n (now (boundaries .entry))) n p) ⌝ }
+{
+    match next_token(boundaries, n, p as usize) {
+        Step::Serves(t) => t,
+        Step::Done { at: _ } => Token { start: 0, end: 0 },
     }
 }

@@ -1,5 +1,5 @@
 use borrow.Author.Needs.{needs}
-use Rattle.sheet.proofs.Steps.{no-limits, no-room, room-met, sheet-is}
+use Rattle.sheet.proofs.Whole.{no-limits, no-room, room-met, sheet-is}
 use Rattle.sheet.proofs.check.Statement.{statement}
 use Rattle.sheet.proofs.check.Tie as tie
 

@@ -1,0 +1,76 @@
+-- What the check needs of its parts' answers. Assumes nothing.
+use Prim.Native.Nat.{ℕ, _+_, _-_, _≤_}
+use native.Mathlib.Omega.{arith}
+use native.Mathlib.Numerals.{add-one}
+use mathlib.Core.Path.{_≡_, refl, sym, _∙_}
+use mathlib.Core.Bool.{Bool, true, false, not, _&&_}
+use mathlib.Core.List.{List}
+use borrow.Author.Tests.{le-leb, lt-leb, leb-true, leb-false, not-true, not-false}
+use lib.Dec.{leb, ltb}
+use lib.ListN.{length, take}
+use lib.Seq.{length-take-le}
+use Rattle.parts.specs.Parts.{isText, areMarks, areTags, areRows}
+use Rattle.sheet.specs.declared.Record.{Record}
+use Rattle.sheet.specs.Layout.{Buffers, roomFor}
+use Rattle.sheet.specs.Check.{inLimits, isLaid, Room, isSheet}
+use Rattle.sheet.proofs.Exact.{room-is}
+
+pub part-long : (n : ℕ) (d : List ℕ) → n ≤ length d → n ≡ length (take n d)
+part-long n d h = sym (length-take-le n d h)
+
+leb-less : (n m : ℕ) → leb n (m + 1) ≡ leb (n - 1) m
+leb-less n m = on (leb (n - 1) m) refl
+  where
+    on : (t : Bool) → leb (n - 1) m ≡ t → leb n (m + 1) ≡ leb (n - 1) m
+    on true e = le-leb n (m + 1) (omega (arith, leb-true (n - 1) m e)) ∙ sym e
+    on false e = lt-leb n (m + 1) (omega (arith, leb-false (n - 1) m e)) ∙ sym e
+
+module _ (r : Record) (d : Buffers) where
+  pub room-same : (
+      leb (r .b) (length (d .text-buf))
+      && leb (r .n) (length (d .types-buf))
+      && leb (r .n) (length (d .boundaries-buf) + 1)
+      && ltb (r .n) (length (d .char-pos-buf))
+      && ltb (r .b) (length (d .byte-pos-buf))
+      && leb (r .n) (length (d .row-ends-buf))
+      && leb (r .k) (length (d .tag-ends-buf))
+      && leb (r .g) (length (d .tag-bytes-buf))) ≡ roomFor r d
+  unfolding roomFor
+  room-same = rw (leb-less (r .n) (length (d .boundaries-buf)), add-one (r .n), add-one (r .b))
+
+  -- the answers of the passes, in their order
+  module _ (text-ok : Bool) (t : text-ok ≡ isText (take (r .b) (d .text-buf)) (take (r .n) (d .types-buf)) (take (r .n + 1) (d .char-pos-buf)) (take (r .b + 1) (d .byte-pos-buf))) where
+    pub no-text : not text-ok ≡ true → false ≡ isLaid r d
+    unfolding isLaid
+    no-text e = rw (← t, not-true text-ok e)
+
+    module _ (marks-ok : Bool) (t-ok : not text-ok ≡ false) (m : marks-ok ≡ areMarks (take (r .n - 1) (d .boundaries-buf))) where
+      pub no-marks : not marks-ok ≡ true → false ≡ isLaid r d
+      unfolding isLaid
+      no-marks e = rw (← t, not-false text-ok t-ok, ← m, not-true marks-ok e)
+
+      module _ (tags-ok : Bool) (m-ok : not marks-ok ≡ false) (g : tags-ok ≡ areTags (take (r .g) (d .tag-bytes-buf)) 0 (take (r .k) (d .tag-ends-buf))) where
+        pub no-tags : not tags-ok ≡ true → false ≡ isLaid r d
+        unfolding isLaid
+        no-tags e = rw (← t, not-false text-ok t-ok, ← m, not-false marks-ok m-ok, ← g, not-true tags-ok e)
+
+        pub laid-is : (rows-ok : Bool) → not tags-ok ≡ false → rows-ok ≡ areRows (r .columns) (take (r .k) (d .tag-ends-buf)) 0 (take (r .n) (d .row-ends-buf)) → rows-ok ≡ isLaid r d
+        unfolding isLaid
+        laid-is rows-ok g-ok e = rw (← t, not-false text-ok t-ok, ← m, not-false marks-ok m-ok, ← g, not-false tags-ok g-ok) e
+
+  module _ (limits-ok : Bool) (l : limits-ok ≡ inLimits r) where
+    pub no-limits : not limits-ok ≡ true → false ≡ isSheet r d
+    unfolding isSheet
+    no-limits e = rw (← l, not-true limits-ok e)
+
+    module _ (room-ok : Bool) (l-ok : not limits-ok ≡ false) (m : room-ok ≡ roomFor r d) where
+      pub no-room : not room-ok ≡ true → false ≡ isSheet r d
+      unfolding isSheet
+      no-room e = rw (← l, not-false limits-ok l-ok, ← m, not-true room-ok e)
+
+      pub room-met : not room-ok ≡ false → Room r d
+      room-met e = room-is r d (sym l ∙ not-false limits-ok l-ok) (sym m ∙ not-false room-ok e)
+
+      pub sheet-is : (laid-ok : Bool) → not room-ok ≡ false → laid-ok ≡ isLaid r d → laid-ok ≡ isSheet r d
+      unfolding isSheet
+      sheet-is laid-ok e q = rw (← l, not-false limits-ok l-ok, ← m, not-false room-ok e) q
