@@ -1,82 +1,7 @@
 // Runs cases against the public functions of the libraries: each line of the input is written back, a case with its answer.
 // A case is a letter, its kind, and hex digits, two to a byte. A line that starts with # is no case.
-ghost use Prim.Native.Nat.{_≤_, _<_};
-ghost use lib.ListN.{length};
-ghost use Rattle.io.specs.Counts.{Counts};
-
-// The value of a hex digit, and 16 of what is none.
-fn digit(b: u8) -> u8 {
-    if b < 48 {
-        return 16;
-    }
-    if b <= 57 {
-        return b - 48;
-    }
-    if b < 65 {
-        return 16;
-    }
-    if b <= 70 {
-        return b - 55;
-    }
-    16
-}
-
-// The byte of two digits, and 256 of what are not two.
-fn pair(high: u8, low: u8) -> u16 {
-    if high < 16 {
-        if low < 16 {
-            return high as u16 * 16 + low as u16;
-        }
-    }
-    256
-}
-
-// The byte that is spelt at a place of a line, and 256 if none is.
-fn spelt(line: &[u8], i: usize) -> u16
-    requires { ⌜ i < length (now line) ⌝ }
-{
-    if i + 1 < line.len() {
-        pair(digit(line[i]), digit(line[i + 1]))
-    } else {
-        256
-    }
-}
-
-// Puts the bytes that a line spells into `out`, as far as they fit, and answers how many there are.
-fn unhex(line: &[u8], out: &mut [u8]) -> usize
-    ensures { λ r. ⌜ Counts r (now (out .exit)) ⌝ }
-{
-    let mut i = 0;
-    let mut n = 0;
-    while i < line.len() {
-        let v = spelt(line, i);
-        if v > 255 {
-            i += 1;
-        } else if n < out.len() {
-            out[n] = v as u8;
-            n += 1;
-            i += 2;
-        } else {
-            return n;
-        }
-    }
-    n
-}
-
-// The end of the line that starts at a place.
-fn line_end(text: &[u8], at: usize) -> usize
-    requires { ⌜ at ≤ length (now text) ⌝ }
-    ensures { λ r. ⌜ (at ≤ r) × (r ≤ length (now (text .entry))) ⌝ }
-{
-    let mut i = at;
-    while i < text.len() {
-        if text[i] == b'\n' {
-            return i;
-        }
-        i += 1;
-    }
-    i
-}
+use casework::find;
+use casework::part;
 
 // Writes a byte as two digits.
 fn show_byte(b: u8) {
@@ -156,8 +81,8 @@ fn show_line(line: &[u8]) {
         let kind = line[0];
         if kind != b'#' {
             let mut b = [0u8; 64];
-            let n = unhex(&line[1..], &mut b);
-            answer(kind, &b[..n]);
+            let n = casework::unhex(&line[1..], &mut b, 0);
+            answer(kind, part(&b, 0, n));
         }
     }
     io::write_all(1, b"\n");
@@ -167,8 +92,8 @@ fn show_line(line: &[u8]) {
 fn run(text: &[u8]) {
     let mut at = 0;
     while at < text.len() {
-        let end = line_end(text, at);
-        show_line(&text[at..end]);
+        let end = find(text, at, b'\n');
+        show_line(part(text, at, end));
         at = end + 1;
     }
 }

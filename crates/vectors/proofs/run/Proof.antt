@@ -1,6 +1,4 @@
 use Prim.Native.Nat.{_+_, _-_, _≤_}
-use mathlib.Core.Path.{_≡_}
-use native.Mathlib.Omega.{arith}
 use borrow.Author.Needs.{needs}
 use lib.ListN.{length}
 use Rattle.vectors.proofs.run.Statement.{statement}
@@ -15,17 +13,11 @@ abbrev μ-loop : tie.MeasureT-loop
 loop-holds : tie.Need-loop-holds Inv-loop μ-loop
 loop-holds c = search needs
 
-line-end-requires : tie.Need-line-end-requires Inv-loop μ-loop
-line-end-requires c κs = search needs
+find-requires : tie.Need-find-requires Inv-loop μ-loop
+find-requires c κs = search needs
 
-sub-show-line : tie.Need-sub-show-line Inv-loop μ-loop
-sub-show-line c = search needs
-
-part-show-line-start : tie.Need-part-show-line-start Inv-loop μ-loop
-part-show-line-start c = search needs
-
-part-show-line-end : tie.Need-part-show-line-end Inv-loop μ-loop
-part-show-line-end c = search needs
+part-requires : tie.Need-part-requires Inv-loop μ-loop
+part-requires c κs = search needs
 
 show-line-requires : tie.Need-show-line-requires Inv-loop μ-loop
 show-line-requires c κs = search needs
@@ -49,10 +41,8 @@ run-spec =
     Inv-loop
     μ-loop
     loop-holds
-    line-end-requires
-    sub-show-line
-    part-show-line-start
-    part-show-line-end
+    find-requires
+    part-requires
     show-line-requires
     add-at
     loop-less

@@ -3,15 +3,14 @@ use mathlib.Core.Path.{_≡_}
 use native.Mathlib.Omega.{arith}
 use borrow.Author.Needs.{needs}
 use lib.ListN.{length, length-set}
-use Rattle.io.proofs.Counting.{counts}
-use Rattle.vectors.proofs.unhex.Statement.{statement}
-use Rattle.vectors.proofs.unhex.Tie as tie
+use Rattle.casework.proofs.hex.unhex.Statement.{statement}
+use Rattle.casework.proofs.hex.unhex.Tie as tie
 
 abbrev Inv-loop : tie.InvT-loop
-Inv-loop line out₀ i₀ n₀ out i n = (i ≤ length line + 1) × (n ≤ length out) × (length out ≡ length out₀)
+Inv-loop s out₀ at i₀ n₀ out i n = (i ≤ length s + 1) × (length out ≡ length out₀)
 
 abbrev μ-loop : tie.MeasureT-loop
-μ-loop line out₀ i₀ n₀ out i n = length line + 1 - i
+μ-loop s out₀ at i₀ n₀ out i n = length s + 1 - i
 
 loop-holds : tie.Need-loop-holds Inv-loop μ-loop
 loop-holds c = search needs
@@ -50,13 +49,13 @@ same-length : tie.Need-same-length Inv-loop μ-loop
 same-length c = search needs
 
 returns : tie.Need-returns Inv-loop μ-loop
-returns c = counts _ _ (omega arith)
+returns c = search needs
 
 same-length-2 : tie.Need-same-length-2 Inv-loop μ-loop
 same-length-2 c = search needs
 
 returns-2 : tie.Need-returns-2 Inv-loop μ-loop
-returns-2 c = counts _ _ (omega arith)
+returns-2 c = search needs
 
 pub unhex-spec : {M : Type 1} → statement M
 unhex-spec =
