@@ -2,7 +2,7 @@
 
 use crate::original;
 use crate::parts::{Buffers, Form, Record, AMPLE, LONGEST};
-use crate::port;
+use crate::port::{self, Port};
 use oracle::draw::Draw;
 use std::env::var;
 use std::hint::black_box;
@@ -37,7 +37,7 @@ const WORDS: [(&str, &str, &str); 24] = [
     ("。", "補助記号", "。"),
 ];
 
-/// Prints the times of both sides; never fails.
+/// Prints the times of both sides; fails where they do not say the same of the lines.
 pub fn command(options: &[&str]) -> Option<bool> {
     let rounds = match options {
         [] => 9,
@@ -49,11 +49,15 @@ pub fn command(options: &[&str]) -> Option<bool> {
     println!("Machine: {}; {run_by}.", var("MACHINE").unwrap_or("unknown".into()));
     println!("Medians of {rounds} rounds, both sides in turn. No buffer is cleared between lines; the one call of the port makes its own anew each time.\n");
     println!("| lines | form | work | Rust ns/line | port ns/line | Rust ns/byte | port ns/byte | ratio |\n|---|---|---|---|---|---|---|---|");
-    let mut draw = Draw::new(1);
+    let (mut draw, mut port) = (Draw::new(1), Port::new());
     let kinds = [("notes", true, 20, 400, 200), ("plain", false, 20, 400, 200), ("4,096 bytes", true, 4096, 4096, 12)];
     for (name, tagged, shortest, longest, count) in kinds {
         for form in [Form::Tokenized, Form::Partial] {
             let lines: Vec<String> = (0..count).map(|_| line(&mut draw, form, tagged, shortest, longest)).collect();
+            if !lines.iter().all(|line| port.outcome(form, line.as_bytes()) == original::outcome(form, line).map_err(|told| told.refusal)) {
+                println!("The port does not answer as the original: no times.");
+                return Some(false);
+            }
             rows(name, form, &lines, rounds);
         }
     }

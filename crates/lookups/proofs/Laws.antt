@@ -2,12 +2,12 @@
 use Prim.Native.Nat.{ℕ, zero, suc, _+_, _-_, _≤_, _<_}
 use native.Mathlib.Omega.{arith}
 use mathlib.Core.Path.{_≡_, refl, sym, _∙_}
-use mathlib.Core.Bool.{Bool, true, false, not, _&&_, _||_, false≢true}
+use mathlib.Core.Bool.{Bool, true, false, not, _&&_}
 use mathlib.Core.List.{List, [], _∷_}
 use mathlib.Core.Logic.{inr}
 use native.Mathlib.Numerals.{add-one}
-use borrow.Author.Tests.{eq-eqb, ne-eqb, le-ltb, leb-false, ltb-false, not-false}
-use lib.Dec.{leb, ltb}
+use borrow.Author.Tests.{eq-eqb, ne-eqb, le-ltb, not-false}
+use lib.Dec.{leb}
 use lib.ListN.{length, getD, take, drop, List·getD-eq-default}
 use Rattle.laws.specs.If.{if_then_else_, if-true, if-false}
 use Rattle.laws.proofs.Facts.{reads, or-is}
@@ -25,17 +25,6 @@ use Rattle.sheet.specs.declared.Part.the-variants as part
 use Rattle.sheet.proofs.Held.{length-starts, byte-pos-held}
 use Rattle.sheet.proofs.Look.{part-at, bytes-among, start-is, bounds, char-pos-is, byte-pos-is, byte-pos-small, row-end-is, tag-end-is, row-next, row-inside, tag-in-row, tag-next}
 use Rattle.lookups.specs.Answers.{startAt, found, strToCharPos, cellStart, tagPart, cell, bytesOf, edge}
-
--- ---- numbers in range
-or-none : (p q : Bool) → (p || q) ≡ false → (p ≡ false) × (q ≡ false)
-or-none true q h = absurd (false≢true (sym h))
-or-none false q h = (refl, h)
-
-pub first-in : (n row : ℕ) (q : Bool) → (leb n row || q) ≡ false → row < n
-first-in n row q h = leb-false n row (or-none (leb n row) q h .0)
-
-pub both-in : (start end n : ℕ) → (leb end start || ltb n end) ≡ false → (start ≤ n) × (end ≤ n)
-both-in start end n h = let k = or-none (leb end start) (ltb n end) h in omega (arith, leb-false end start (k .0), ltb-false n end (k .1))
 
 -- ---- the bytes of a part
 pub ordered : (b e n : ℕ) → (leb b e && leb e n) ≡ true → (b ≤ e) × (e ≤ n)

@@ -3,65 +3,24 @@ use Prim.Native.Nat.{ℕ, zero, suc, _+_, _-_, _≤_, _<_}
 use native.Mathlib.Omega.{arith}
 use mathlib.Core.Path.{_≡_, refl, sym, ap, _∙_}
 use mathlib.Core.Logic.{_↔_}
-use mathlib.Core.Bool.{Bool, true, false, not, _||_, false≢true, true≢false, and-eq-true-iff}
+use mathlib.Core.Bool.{Bool, true, false, _||_, true≢false, and-eq-true-iff}
 use mathlib.Core.List.{List, [], _∷_, _++_, map}
-use borrow.Author.Tests.{eq-eqb, eqb-true, eqb-false, le-leb, leb-true, lt-ltb, ltb-true, not-true}
+use borrow.Author.Tests.{eq-eqb, eqb-true, eqb-false, le-leb, leb-true, lt-ltb, ltb-true}
 use lib.Dec.{eqb, leb}
 use lib.ListN.{length, take, drop, getD, length-map, length-take, length-drop, take-append-drop}
 use lib.Seq.{length-take-le, drop-drop, drop-length, take-append-le, drop-append-le, take-at, drop-at, getD-take, getD-drop}
 use Rattle.laws.specs.All.{All, All-imp}
 use Rattle.laws.proofs.Facts.{reads}
-use Rattle.utf8.specs.Utf8.{scalars, validPrefix, scalar, encodes, size}
-use Rattle.utf8.proofs.Codec.{width-small, length-encodes, scalars-encodes, encodes-scalars, valid-encodes, all-scalar}
+use Rattle.utf8.specs.Utf8.{scalars, encodes, size}
+use Rattle.utf8.proofs.Codec.{width-small, length-encodes, scalars-encodes}
 use Rattle.types.specs.TypeOf.{typeOf}
 use Rattle.sentence.specs.Sentence.{Tag, Mark, none, word, unknown, code, Cells, Sentence, textOf, marksOf, rowsOf, text, marks, rows, types, charPositions, bytePositions, onto, cut, listed, rowBytes, tagBytes, Char, Row, CellsOf, Formed}
+use Rattle.parts.specs.Parts.{isText, areMarks, chain, isTag, areTags, present, isRow, areRows}
+use Rattle.parts.proofs.Says.{same-self, Plain, plain-is, is-plain, TextIs, text-is}
 use Rattle.sheet.specs.declared.Record.{Record}
 use Rattle.sheet.specs.Layout.{Buffers, recordOf, tagsOf, rowEnds, tagEnds, bytesOf, lay, roomFor, Front, Holds, pieces, markOf, link, spell, Sheet}
-use Rattle.sheet.specs.Check.{inLimits, same, noNul, isPlain, isText, areMarks, chain, isTag, areTags, present, isRow, areRows, isLaid, Room, isSheet}
+use Rattle.sheet.specs.Check.{inLimits, isLaid, Room, isSheet}
 use Rattle.sheet.proofs.Held.{length-marks, length-rowEnds, length-tagEnds, length-tagsOf, length-bytesOf, bytes-tagsOf, n-held, b-held, columns-held, k-held, g-held, text-held, types-held, boundaries-held, char-pos-held, byte-pos-held, row-ends-held, tag-ends-held, tag-bytes-held, text-chars-held, rows-held, tags-chars-held}
-
--- ---- lists of which a test says that they are the same
-same-is : (xs ys : List ℕ) → same xs ys ≡ true → xs ≡ ys
-unfolding same
-same-is [] [] e = refl
-same-is [] (y ∷ ys) e = absurd (false≢true e)
-same-is (x ∷ xs) [] e = absurd (false≢true e)
-same-is (x ∷ xs) (y ∷ ys) e =
-    let k = and-eq-true-iff (eqb x y) (same xs ys) .0 e in rw (eqb-true x y (k .0), same-is xs ys (k .1))
-
-same-self : (xs : List ℕ) → same xs xs ≡ true
-unfolding same
-same-self [] = refl
-same-self (x ∷ xs) = rw (eq-eqb x x refl) (same-self xs)
-
--- ---- bytes that are UTF-8 without NUL
-record Plain (s : List ℕ) : Type 0 where
-  bytes : encodes (scalars s) ≡ s
-  chars : All Char (scalars s)
-
-no-nul : (cs : List ℕ) → All (λ c. scalar c ≡ true) cs → noNul cs ≡ true → All Char cs
-unfolding noNul
-no-nul [] a e = tt
-no-nul (c ∷ cs) a e =
-    let k = and-eq-true-iff (not (eqb c 0)) (noNul cs) .0 e in
-    (record { is-scalar = a .0; not-nul = not-true (eqb c 0) (k .0) }, no-nul cs (a .1) (k .1))
-
-nul-free : (cs : List ℕ) → All Char cs → noNul cs ≡ true
-unfolding noNul
-nul-free [] a = refl
-nul-free (c ∷ cs) a = rw (a .0 .not-nul) (nul-free cs (a .1))
-
-plain-is : (s : List ℕ) → isPlain s ≡ true → Plain s
-unfolding isPlain
-plain-is s e =
-    let k = and-eq-true-iff (eqb (validPrefix s) (length s)) (noNul (scalars s)) .0 e in
-    record { bytes = encodes-scalars s (eqb-true _ _ (k .0)); chars = no-nul (scalars s) (all-scalar s) (k .1) }
-
-is-plain : (cs : List ℕ) → All Char cs → isPlain (encodes cs) ≡ true
-unfolding isPlain
-is-plain cs a =
-    let h = All-imp Char _ (λ c p. p .is-scalar) cs a in
-    rw (valid-encodes cs h, eq-eqb (length (encodes cs)) (length (encodes cs)) refl, scalars-encodes cs h) (nul-free cs a)
 
 -- ---- boundaries
 marks-are : (ms : List ℕ) → areMarks ms ≡ true → map code (map markOf ms) ≡ ms
@@ -282,7 +241,7 @@ linked n (c ∷ d ∷ cs) (m ∷ ms) (r ∷ rs) e f a b =
       cells-are = (a .0, b .0, l .cells-are);
     }
 
--- ---- what the tests say of the record, the room and the text
+-- ---- what the tests say of the record and the room
 pub record Limits (r : Record) : Type 0 where
   pub few-bytes : r .b ≤ 4096
   pub few-columns : r .columns ≤ 4096
@@ -296,26 +255,6 @@ limits-are r = simp reads (omega arith)
 pub room-is : (r : Record) (d : Buffers) → inLimits r ≡ true → roomFor r d ≡ true → Room r d
 unfolding inLimits roomFor
 room-is r d = simp reads (omega arith)
-
-record TextIs (s ys ps qs cs : List ℕ) : Type 0 where
-  bytes : encodes cs ≡ s
-  chars : All Char cs
-  types-are : types cs ≡ ys
-  starts-are : charPositions cs ≡ ps
-  numbers-are : bytePositions cs ≡ qs
-
-text-is : (s ys ps qs : List ℕ) → isText s ys ps qs ≡ true → TextIs s ys ps qs (scalars s)
-unfolding isText
-text-is s ys ps qs e =
-    let (((p, y), t), q) = simp and-eq-true-iff at e in
-    let k = plain-is s p in
-    record {
-      bytes = k .bytes;
-      chars = k .chars;
-      types-are = same-is _ _ y;
-      starts-are = same-is _ _ t;
-      numbers-are = same-is _ _ q;
-    }
 
 -- ---- a sentence that is held passes each test
 module _ (r : Record) (d : Buffers) (s : Sentence) (h : Holds r d s) where

@@ -4,13 +4,14 @@ use mathlib.Core.Path.{_≡_, refl, sym, ap, _∙_}
 use mathlib.Core.Bool.{true}
 use mathlib.Core.List.{List, [], _∷_, _++_, map, append-assoc}
 use native.Mathlib.Omega.{arith}
-use lib.ListN.{length, take, length-append, length-map, length-take, length-replicate, take-append-drop}
+use lib.ListN.{length, take, length-append, length-map, length-take, take-append-drop}
 use lib.Seq.{take-append-seam, take-at, drop-at}
 use Rattle.laws.specs.All.{All, All-append, All-imp}
-use Rattle.utf8.specs.Utf8.{scalars, width, encodes, size}
-use Rattle.utf8.proofs.Codec.{width-small, length-encodes, scalars-encodes}
+use Rattle.utf8.specs.Utf8.{scalars, encodes, size}
+use Rattle.utf8.proofs.Codec.{length-encodes, scalars-encodes}
 use Rattle.types.specs.TypeOf.{typeOf}
-use Rattle.sentence.specs.Sentence.{Tag, Mark, none, word, unknown, code, Cells, final, cell, Sentence, textOf, marksOf, rowsOf, text, marks, rows, types, starts, numbers, charPositions, bytePositions, listed, rowBytes, tagBytes, Char, Row, CellsOf, Formed}
+use Rattle.sentence.specs.Sentence.{Tag, Mark, none, word, unknown, code, Cells, final, cell, Sentence, textOf, marksOf, rowsOf, text, marks, rows, types, starts, charPositions, bytePositions, listed, rowBytes, tagBytes, Char, Row, CellsOf, Formed}
+pub use Rattle.parts.proofs.Says.{length-starts, length-numbers}
 use Rattle.sheet.specs.declared.Record.{Record}
 use Rattle.sheet.specs.Layout.{Buffers, recordOf, tagsOf, rowEnds, tagEnds, bytesOf, lay, laid, roomFor, Front, Holds, pieces, markOf, link, spell}
 
@@ -70,16 +71,6 @@ pub bytes-tagsOf : (rs : List (List Tag)) → rowBytes (tagsOf rs) ≡ tagBytes 
 unfolding tagsOf rowBytes tagBytes
 bytes-tagsOf [] = refl
 bytes-tagsOf (r ∷ rs) = omega (arith, rowBytes-append r (tagsOf rs), bytes-tagsOf rs)
-
-pub length-starts : (at : ℕ) (cs : List ℕ) → length (starts at cs) ≡ length cs + 1
-unfolding starts
-length-starts at [] = refl
-length-starts at (c ∷ cs) = omega (arith, length-starts (at + width c) cs)
-
-pub length-numbers : (k : ℕ) (cs : List ℕ) → length (numbers k cs) ≡ size cs + 1
-unfolding numbers size
-length-numbers k [] = refl
-length-numbers k (c ∷ cs) = rw (length-append, length-replicate) (omega (arith, width-small c, length-numbers (k + 1) cs))
 
 -- ---- each part gives back what it was made of
 pub marks-back : (ms : List Mark) → map markOf (map code ms) ≡ ms

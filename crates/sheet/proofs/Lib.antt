@@ -1,4 +1,4 @@
 pub mod Held
 pub mod Exact
 pub mod Look
-pub mod Steps
+pub mod Whole

@@ -4,7 +4,7 @@ use native.Mathlib.Numerals.{add-one}
 use native.Mathlib.Decide.{decLt}
 use native.Mathlib.Omega.{arith}
 use mathlib.Core.Path.{_≡_, refl, sym, ap, _∙_}
-use mathlib.Core.Bool.{Bool, true, false, not}
+use mathlib.Core.Bool.{Bool, true, false, not, _||_, false≢true}
 use mathlib.Core.List.{List, [], _∷_, _++_, append-nil, append-assoc}
 use lib.ListN.{length, getD, take, drop, replicate, length-append, length-drop, length-replicate, getD-replicate, take-append-drop, drop-of-length-le, List·getD-append, List·getD-map}
 use lib.Seq.{length-take-le, take-suc, drop-cons, take-add, take-take, take-nil, take-length, take-at, drop-at, take-append-le, drop-append-le, getD-take, getD-drop, getD-append-add}
@@ -410,6 +410,11 @@ module _ {A : Type 0} (refuse : Refusal → A) (g good out : Bool) (first : ℕ)
 -- what a check that was passed says
 pub checked : (r : Record) (d : Buffers) (g : Bool) → g ≡ isSheet r d → not g ≡ false → Sheet r d
 checked r d g e h = is-sheet r d (sym e ∙ not-false g h)
+
+-- two tests of which neither is true
+pub neither : (p q : Bool) → (p || q) ≡ false → (p ≡ false) × (q ≡ false)
+neither true q h = absurd (false≢true (sym h))
+neither false q h = (refl, h)
 
 -- the checks that an answer passed which is no refusal
 abbrev pub Passed : List Check → Type 0

@@ -18,7 +18,7 @@ fn served(start: usize, end: usize) -> Step
     })
 }
 
-// The first token from `p` on that has no unknown boundary; one is taken to begin at `p`.
+// The first token from `p` on that has no unknown boundary; one is taken to begin at `p`. A boundary is 0 none, 1 word, 2 unknown.
 pub fn next_token(boundaries: &[u8], n: usize, p: usize) -> Step
     requires { ⌜ Bounded n (now boundaries) ⌝ }
     ensures { λ r. ⌜ r ≡ stepOf (nextToken (marksIn n (now (boundaries .entry))) n p) ⌝ }

@@ -1,7 +1,7 @@
 -- `lookups::tag` meets its contract. Assumes nothing.
-use Rattle.lookups.proofs.Laws.{first-in}
 use Rattle.sheet.specs.declared.Part.the-variants.{Refused}
-use Rattle.sheet.proofs.Look.{broken, outside, inside, checked, bounds}
+use borrow.Author.Tests.{leb-false}
+use Rattle.sheet.proofs.Look.{neither, broken, outside, inside, checked, bounds}
 use Rattle.lookups.specs.Answers.{tagAt}
 use borrow.Author.Needs.{needs}
 use Rattle.lookups.proofs.tag.Statement.{statement}
@@ -19,7 +19,7 @@ unfolding tagAt
 returns-2 c = outside Refused _ _ _ _ _ (c .before .before .before .before .check .ensures) (c .before .before .before .if1 .left) (rw (← (bounds (checked _ _ _ (c .before .before .before .before .check .ensures) (c .before .before .before .if1 .left)) .n-is), ← (bounds (checked _ _ _ (c .before .before .before .before .check .ensures) (c .before .before .before .if1 .left)) .columns-is)) (c .if2 .taken))
 
 tag-requires : tie.Need-tag-requires
-tag-requires c κs = ((checked _ _ _ (c .before .before .before .before .check .ensures) (c .before .before .before .if1 .left)), first-in _ _ _ (c .if2 .left))
+tag-requires c κs = ((checked _ _ _ (c .before .before .before .before .check .ensures) (c .before .before .before .if1 .left)), leb-false _ _ (neither _ _ (c .if2 .left) .0))
 
 returns-3 : tie.Need-returns-3
 unfolding tagAt
