@@ -1,14 +1,14 @@
 -- Escaping a part of a slice, byte by byte; escaping characters is escaping their bytes. Assumes nothing.
 use Prim.Native.Nat.{ℕ, zero, suc, _+_, _-_, _*_, _≤_, _<_}
 use mathlib.Core.Path.{_≡_, refl, sym, ap, _∙_}
-use mathlib.Core.Bool.{Bool, true, false, _||_, _&&_}
+use mathlib.Core.Bool.{Bool, true, false}
 use mathlib.Core.List.{List, [], _∷_, _++_}
 use native.Mathlib.Omega.{arith}
 use borrow.Author.Tests.{ne-eqb}
 use lib.ListN.{length, getD, take, drop, replicate}
 use Rattle.laws.specs.Put.{left-step, left-none}
 use Rattle.laws.specs.If.{if_then_else_}
-use Rattle.sentence.specs.Sentence.{none, word, unknown}
+use Rattle.sentence.specs.Sentence.{none}
 use Rattle.sentence.specs.Reading.{Form, Kind, mark, slash, back, plain, kind}
 use Rattle.sentence.specs.Writing.{escapeAs, escape}
 use Rattle.escape.specs.Escape.{formOf, meant}

@@ -2,8 +2,6 @@
 use Rattle.escape.proofs.Bytes.{meanings}
 use Rattle.escape.proofs.given.has_meaning.Statement.{statement}
 use Rattle.escape.proofs.given.has_meaning.Tie as tie
-use Rattle.escape.proofs.given.has_meaning.Reads as reads
-use Rattle.escape.proofs.given.has_meaning.Lts as lts
 
 returns : tie.Need-returns
 returns c = search meanings
