@@ -126,7 +126,7 @@ module _ (x : Result) (d : Buffers) (ok : Bool) (h : ok ≡ roomOf (record { n =
   update-leaves t = rw (lacking blank d ok _ blank-record h false t)
 
 -- what a reader's answer says of what an order of refusals gives
-order-sentence : (x : Result) (d : Buffers) (r : Record) (b : Buffers) → readAnswer x d ≡ answer.Sentence r
+pub order-sentence : (x : Result) (d : Buffers) (r : Record) (b : Buffers) → readAnswer x d ≡ answer.Sentence r
     → readerOrder (λ (q : Refusal). b) (lacks d) (λ (s : Sentence). laid s d) x ≡ readLeaves x d
 unfolding readAnswer readLeaves readerOrder verdict if_then_else_
 order-sentence (sentence s) d r b e = on (lacks d s) e
@@ -136,7 +136,7 @@ order-sentence (sentence s) d r b e = on (lacks d s) e
     on false e = refl
 order-sentence (refused n p) d r b e = cc
 
-order-refused : (x : Result) (d : Buffers) (q : Refusal) (b : Buffers) → readAnswer x d ≡ answer.Refused q
+pub order-refused : (x : Result) (d : Buffers) (q : Refusal) (b : Buffers) → readAnswer x d ≡ answer.Refused q
     → readerOrder (λ (q : Refusal). b) (lacks d) (λ (s : Sentence). laid s d) x ≡ b
 unfolding readAnswer readerOrder verdict if_then_else_
 order-refused (sentence s) d q b e = on (lacks d s) e
