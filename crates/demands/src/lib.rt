@@ -1,0 +1,1 @@
+// The demands on the public functions, stated in one place; there is no code here.
