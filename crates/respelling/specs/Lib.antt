@@ -1,0 +1,4 @@
+pub mod Decimal
+pub mod Respell
+pub mod Stream
+pub mod Example
