@@ -1,2 +1,4 @@
+pub mod Puts
+pub mod Digits
 pub mod Lines
 pub mod Stream
