@@ -28,15 +28,30 @@ examples() {
         grep -q '^test result: ok\. [1-9]' "$log"
 }
 
+# The original and the port in one program.
+linked() {
+    if ! [ -d "$here/../crates/exports" ]; then
+        echo 'host: not run, for crates/exports is not there: the port beside the original'
+    elif ! command -v rt >/dev/null; then
+        echo 'host: not run, for rt is not at hand: the port beside the original'
+    elif ! find_x86; then
+        echo 'host: not run, for there is no compiler here for x86-64, nor could one be installed: the port beside the original'
+    elif check 'the port and the original link into one program' "$here/link.sh"; then
+        check 'the port answers as the original on generated lines' "${run[@]}" "$out/x86/both" check && sed 's/^/    /' "$log"
+        check 'compare explains what differs on the sample, and reports a wrong port' "$here/compare-test.sh"
+    fi
+}
+
 check 'the gate adds up its parts and fails where it should' "$here/gate-test.sh"
 if ! find_src && [ -z "${VAPORETTO_SRC-}" ]; then
-    echo "host: not run, for the original's sources are not at hand (VAPORETTO_SRC): the oracle, its tests, the recorded lists"
+    echo "host: not run, for the original's sources are not at hand (VAPORETTO_SRC): the oracle, its tests, the recorded lists, the port beside the original"
 elif ! find_rustc; then
-    echo 'host: not run, for there is no rustc of 1.83 or later, nor could one be installed: the oracle, its tests, the recorded lists'
+    echo 'host: not run, for there is no rustc of 1.83 or later, nor could one be installed: the oracle, its tests, the recorded lists, the port beside the original'
 elif check 'the original, unchanged, compiles beside the stand-ins' "$here/build.sh"; then
     check "the original's own examples" examples
-    check "the oracle's tests" "$out/oracle-tests"
+    check "the oracle's tests" "$out/oracle_tests"
     check 'the recorded lists, made again, show no difference' "$here/record.sh" --check
+    linked
 fi
 echo "$passed passed, $failed failed"
 [ "$failed" = 0 ]

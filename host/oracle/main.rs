@@ -1,16 +1,10 @@
-//! Asks the original, and writes down what it answers.
+//! The oracle's program.
 //!
 //!   oracle < LINES           for each line and each form: the answer, or the original's message
 //!   oracle answers < ASKED   for each line 'F HEX': the answer as it is recorded
 //!   oracle record FOLDER     writes the recorded lists into a folder
 
-mod acts;
-mod answer;
-mod cases;
-mod lists;
-#[cfg(test)]
-mod tests;
-
+use oracle::{answer, asked, lists};
 use std::io::{stdin, stdout, BufRead, BufWriter, Write};
 
 fn main() -> std::io::Result<()> {
@@ -34,16 +28,4 @@ fn each_line(say: impl Fn(&[u8]) -> String) -> std::io::Result<()> {
         out.write_all(say(&line?).as_bytes())?;
     }
     out.flush()
-}
-
-/// The recorded answer to a line 'F HEX', or a question mark where it is none.
-fn asked(line: &[u8]) -> String {
-    let line = String::from_utf8_lossy(line);
-    match line.split(' ').collect::<Vec<_>>()[..] {
-        [form @ ("R" | "T" | "P"), word] => match answer::unhex(word) {
-            Some(bytes) => answer::recorded(form.chars().next().unwrap(), &bytes),
-            None => "?".into(),
-        },
-        _ => "?".into(),
-    }
 }

@@ -1,8 +1,8 @@
 -- The one-blank sentence: its room, and what its stores make of the buffers. Assumes nothing.
-use Prim.Native.Nat.{ℕ, _≤_}
-use mathlib.Core.Path.{_≡_, refl, sym, ap, _∙_}
+use Prim.Native.Nat.{_≤_}
+use mathlib.Core.Path.{_≡_, refl, sym, _∙_}
 use mathlib.Core.Bool.{Bool, true, false, not, _&&_, and-true}
-use mathlib.Core.List.{List, [], _∷_}
+use mathlib.Core.List.{[], _∷_}
 use native.Mathlib.Omega.{arith}
 use borrow.Author.Tests.{not-true, not-false}
 use lib.Dec.{leb, leb·zero}
@@ -11,14 +11,13 @@ use Rattle.laws.specs.If.{if_then_else_}
 use Rattle.laws.specs.Put.{put-front}
 use Rattle.laws.proofs.Facts.{reads}
 use Rattle.utf8.specs.Utf8.{width, encode, encodes, size}
-use Rattle.types.specs.TypeOf.{ranges, typeOf}
+use Rattle.types.specs.TypeOf.{find, ranges, typeOf}
 use Rattle.sentence.specs.Sentence.{textOf, marksOf, rowsOf, starts, numbers, listed, rowBytes, tagBytes}
 use Rattle.sentence.specs.Writing.{blank}
 use Rattle.sentence.specs.Refusals.{verdict}
 use Rattle.sheet.specs.Layout.{Buffers, buffers, recordOf, tagsOf, rowEnds, tagEnds, bytesOf, lay, laid, roomFor}
-use Rattle.sheet.specs.declared.Answer.{Answer}
 use Rattle.sheet.specs.declared.Answer.the-variants as answer
-use Rattle.changes.specs.Changes.{Lays, DefaultSet, defaultAnswer}
+use Rattle.changes.specs.Changes.{DefaultSet, defaultAnswer}
 
 -- the room, by the lengths that the code tests
 abbrev pub fits : Buffers → Bool
@@ -59,7 +58,7 @@ blank-refused d r e h = record {
 pub blank-laid : (d : Buffers) (r : Bool) → r ≡ fits d → not r ≡ false
     → DefaultSet d (answer.Sentence (record { n = 1; b = 1; columns = 0; k = 0; g = 0 }))
     (buffers (set (d .text-buf) 0 32) (set (d .types-buf) 0 6) (d .boundaries-buf) (set (set (d .char-pos-buf) 0 0) 1 1) (set (set (d .byte-pos-buf) 0 0) 1 1) (set (d .row-ends-buf) 0 0) (d .tag-ends-buf) (d .tag-bytes-buf))
-unfolding defaultAnswer verdict if_then_else_ blank recordOf lay laid textOf marksOf rowsOf starts numbers size width encode encodes ranges typeOf listed rowBytes tagBytes tagsOf rowEnds tagEnds bytesOf
+unfolding defaultAnswer verdict if_then_else_ blank recordOf lay laid textOf marksOf rowsOf starts numbers size width encode encodes find ranges typeOf listed rowBytes tagBytes tagsOf rowEnds tagEnds bytesOf
 blank-laid d r e h =
     let k = room d (sym e ∙ not-false r h) in
     record {

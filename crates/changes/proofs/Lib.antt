@@ -1,2 +1,5 @@
 pub mod Blank
-pub mod Once
+pub mod Outcome
+pub mod Changed
+pub mod Kept
+pub mod After

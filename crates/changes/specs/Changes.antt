@@ -1,12 +1,15 @@
 -- What the calls that change a sentence in its buffers answer, and what they leave.
-use Prim.Native.Nat.{ℕ}
+use Prim.Native.Nat.{ℕ, _-_}
 use mathlib.Core.Path.{_≡_}
-use mathlib.Core.Bool.{Bool, true, false, not}
+use mathlib.Core.Bool.{Bool, false, not, _||_}
 use mathlib.Core.List.{List, [], _∷_}
-use Rattle.sentence.specs.Sentence.{Sentence}
-use Rattle.sentence.specs.Writing.{blank}
-use Rattle.sentence.specs.Refusals.{check, verdict}
-use Rattle.sheet.specs.Layout.{Buffers, recordOf, laid, roomFor}
+use lib.Dec.{leb, ltb}
+use Rattle.sentence.specs.Sentence.{Sentence, count}
+use Rattle.sentence.specs.Writing.{setBoundary, resetTags, blank}
+use Rattle.sentence.specs.Refusals.{check, verdict, sheetOrder}
+use Rattle.sheet.specs.Layout.{Buffers, recordOf, laid, roomFor, markOf, spell}
+use Rattle.sheet.specs.Check.{isSheet}
+use Rattle.sheet.specs.declared.Record.{Record}
 use Rattle.sheet.specs.declared.Answer.{Answer}
 use Rattle.sheet.specs.declared.Answer.the-variants as answer
 
@@ -27,6 +30,10 @@ pub record Lays (a : Answer) (s : Sentence) (d : Buffers) (r : Answer) (e : Buff
   pub tag-ends-is : e .tag-ends-buf ≡ after r (laid s d .tag-ends-buf) (d .tag-ends-buf)
   pub tag-bytes-is : e .tag-bytes-buf ≡ after r (laid s d .tag-bytes-buf) (d .tag-bytes-buf)
 
+-- the same of a call that always lays s down
+abbrev pub Laid : Sentence → Buffers → Answer → Buffers → Type 0
+Laid s d r e = Lays (answer.Sentence (recordOf s)) s d r e
+
 -- the one-blank sentence, or 15 where a buffer is below its room
 unfoldable pub defaultAnswer : Buffers → Answer
 defaultAnswer d = verdict answer.Refused (check (not (roomFor (recordOf blank) d)) 15 0 ∷ []) (answer.Sentence (recordOf blank))
@@ -34,3 +41,20 @@ defaultAnswer d = verdict answer.Refused (check (not (roomFor (recordOf blank) d
 -- what `set_default` answers, and the buffers e that it leaves of d
 abbrev pub DefaultSet : Buffers → Answer → Buffers → Type 0
 DefaultSet d r e = Lays (defaultAnswer d) blank d r e
+
+-- a boundary index is below N-1, a value is 0 to 2
+unfoldable pub boundaryAnswer : Bool → Sentence → ℕ → ℕ → Answer
+boundaryAnswer good s i v =
+    verdict answer.Refused (sheetOrder (not good) (leb (count s - 1) i || ltb 2 v) i false 0) (answer.Sentence (recordOf (setBoundary i (markOf v) s)))
+
+-- what `set_boundary` answers, and the buffers e that it leaves of d
+abbrev pub BoundarySet : Record → Buffers → ℕ → ℕ → Answer → Buffers → Type 0
+BoundarySet r d i v a e = Lays (boundaryAnswer (isSheet r d) (spell r d) i v) (setBoundary i (markOf v) (spell r d)) d a e
+
+-- c is at most 4,096
+unfoldable pub resetAnswer : Bool → Sentence → ℕ → Answer
+resetAnswer good s c = verdict answer.Refused (sheetOrder (not good) (ltb 4096 c) c false 0) (answer.Sentence (recordOf (resetTags c s)))
+
+-- what `reset_tags` answers, and the buffers e that it leaves of d
+abbrev pub TagsReset : Record → Buffers → ℕ → Answer → Buffers → Type 0
+TagsReset r d c a e = Lays (resetAnswer (isSheet r d) (spell r d) c) (resetTags c (spell r d)) d a e

@@ -6,7 +6,9 @@ ghost use mathlib.Core.Path.{_≡_};
 ghost use mathlib.Core.Bool.{_&&_};
 ghost use lib.Dec.{leb};
 ghost use Rattle.sheet.specs.Layout.{buffers};
-ghost use Rattle.changes.specs.Changes.{DefaultSet};
+ghost use Rattle.changes.specs.Changes.{DefaultSet, BoundarySet, TagsReset};
+
+pub mod given;
 
 // Whether buffers of these lengths have the one-blank sentence's room; boundaries and tags need none.
 fn blank_fits(text: usize, types: usize, char_pos: usize, byte_pos: usize, row_ends: usize) -> bool
@@ -54,4 +56,108 @@ pub fn set_default(
         k: 0,
         g: 0,
     })
+}
+
+// Sets boundary i to a value: 0 none, 1 word, 2 unknown.
+pub fn set_boundary(
+    r: Record,
+    text: &[u8],
+    types: &[u8],
+    boundaries: &mut [u8],
+    char_pos: &[u16],
+    byte_pos: &[u16],
+    row_ends: &[u16],
+    tag_ends: &[u16],
+    tag_bytes: &[u8],
+    i: usize,
+    value: u8,
+) -> Answer
+    ensures { λ a. ⌜ BoundarySet r (buffers (now (text .entry)) (now (types .entry)) (now (boundaries .entry)) (now («char_pos» .entry)) (now («byte_pos» .entry)) (now («row_ends» .entry)) (now («tag_ends» .entry)) (now («tag_bytes» .entry))) i value a (buffers (now (text .entry)) (now (types .entry)) (now (boundaries .exit)) (now («char_pos» .entry)) (now («byte_pos» .entry)) (now («row_ends» .entry)) (now («tag_ends» .entry)) (now («tag_bytes» .entry))) ⌝ }
+{
+    if !sheet::check(
+        r,
+        text,
+        types,
+        boundaries,
+        char_pos,
+        byte_pos,
+        row_ends,
+        tag_ends,
+        tag_bytes,
+    ) {
+        return Answer::Refused(Refusal {
+            number: 13,
+            place: 0,
+        });
+    }
+    if (i >= r.n - 1) | (value > 2) {
+        return Answer::Refused(Refusal {
+            number: 14,
+            place: i,
+        });
+    }
+    given::set_boundary(
+        r,
+        text,
+        types,
+        boundaries,
+        char_pos,
+        byte_pos,
+        row_ends,
+        tag_ends,
+        tag_bytes,
+        i,
+        value,
+    )
+}
+
+// Makes all tags absent, and the columns c.
+pub fn reset_tags(
+    r: Record,
+    text: &[u8],
+    types: &[u8],
+    boundaries: &[u8],
+    char_pos: &[u16],
+    byte_pos: &[u16],
+    row_ends: &mut [u16],
+    tag_ends: &[u16],
+    tag_bytes: &[u8],
+    c: usize,
+) -> Answer
+    ensures { λ a. ⌜ TagsReset r (buffers (now (text .entry)) (now (types .entry)) (now (boundaries .entry)) (now («char_pos» .entry)) (now («byte_pos» .entry)) (now («row_ends» .entry)) (now («tag_ends» .entry)) (now («tag_bytes» .entry))) c a (buffers (now (text .entry)) (now (types .entry)) (now (boundaries .entry)) (now («char_pos» .entry)) (now («byte_pos» .entry)) (now («row_ends» .exit)) (now («tag_ends» .entry)) (now («tag_bytes» .entry))) ⌝ }
+{
+    if !sheet::check(
+        r,
+        text,
+        types,
+        boundaries,
+        char_pos,
+        byte_pos,
+        row_ends,
+        tag_ends,
+        tag_bytes,
+    ) {
+        return Answer::Refused(Refusal {
+            number: 13,
+            place: 0,
+        });
+    }
+    if c > 4096 {
+        return Answer::Refused(Refusal {
+            number: 14,
+            place: c,
+        });
+    }
+    given::reset_tags(
+        r,
+        text,
+        types,
+        boundaries,
+        char_pos,
+        byte_pos,
+        row_ends,
+        tag_ends,
+        tag_bytes,
+        c,
+    )
 }

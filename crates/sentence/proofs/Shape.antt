@@ -44,13 +44,13 @@ wider m n (final c r) le h = (h .0, wider-row m n r le (h .1))
 wider m n (cell c r k s) le h = (h .0, wider-row m n r le (h .1), wider m n s le (h .2))
 
 -- ---- a step on a character acts with that character
-abbrev ActOf : ℕ → Act → Type 0
+abbrev pub ActOf : ℕ → Act → Type 0
 ActOf c skip = Unit {0}
 ActOf c (letter m d) = d ≡ c
 ActOf c opens = Unit {0}
 ActOf c (ofTag d) = d ≡ c
 
-abbrev StepOf : ℕ → Step → Type 0
+abbrev pub StepOf : ℕ → Step → Type 0
 StepOf c (go σ a) = ActOf c a
 StepOf c (stop e) = Unit {0}
 
@@ -77,7 +77,7 @@ opening-of e p slash c = tt
 opening-of e p back c = tt
 opening-of e p plain c = ordinary-of tokenized p c
 
-step-of : (f : Form) (σ : State) (k : Kind) (c : ℕ) → StepOf c (step f σ k c)
+pub step-of : (f : Form) (σ : State) (k : Kind) (c : ℕ) → StepOf c (step f σ k c)
 unfolding step
 step-of f (escaped p) k c = ordinary-of f p c
 step-of f (at behind) k c = inside-of f behind k c
@@ -166,7 +166,7 @@ onto-bytes [] [] = refl
 onto-bytes (c ∷ t) [] = refl
 onto-bytes t (u ∷ us) = refl
 
-cut-bytes : (ts : List Tag) → rowBytes (cut ts) ≡ rowBytes ts
+pub cut-bytes : (ts : List Tag) → rowBytes (cut ts) ≡ rowBytes ts
 unfolding cut rowBytes
 cut-bytes [] = refl
 cut-bytes (t ∷ ts) = onto-bytes t (cut ts) ∙ rw (cut-bytes ts)

@@ -170,7 +170,7 @@ reads-plainly (cell c r word s) n {m = m} o h w =
 reads-plainly (cell c r unknown s) n o h w = absurd w
 
 -- ---- the tokenized line of such a sentence is its tokens one after another
-escape-append : (f : Form) (u v : List ℕ) → escape f (u ++ v) ≡ escape f u ++ escape f v
+pub escape-append : (f : Form) (u v : List ℕ) → escape f (u ++ v) ≡ escape f u ++ escape f v
 unfolding escape
 escape-append f [] v = refl
 escape-append f (c ∷ u) v = rw (escape-append f u v, append-assoc)

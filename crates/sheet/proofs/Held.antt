@@ -1,15 +1,17 @@
 -- What is laid is held, and what is held is what is spelled: a record and buffers hold at most one sentence. Assumes nothing.
-use Prim.Native.Nat.{ℕ, _+_, _-_}
+use Prim.Native.Nat.{ℕ, _+_, _-_, _≤_}
 use mathlib.Core.Path.{_≡_, refl, sym, ap, _∙_}
 use mathlib.Core.Bool.{true}
-use mathlib.Core.List.{List, [], _∷_, _++_, map, append-nil, append-assoc}
+use mathlib.Core.List.{List, [], _∷_, _++_, map, append-assoc}
 use native.Mathlib.Omega.{arith}
-use lib.ListN.{length, take, drop, length-append, length-map, take-append-drop}
+use lib.ListN.{length, take, length-append, length-map, length-take, take-append-drop}
 use lib.Seq.{take-append-seam, take-at, drop-at}
 use Rattle.laws.specs.All.{All, All-append, All-imp}
-use Rattle.utf8.specs.Utf8.{scalars, scalar, encodes, size}
+use Rattle.utf8.specs.Utf8.{scalars, encodes, size}
 use Rattle.utf8.proofs.Codec.{length-encodes, scalars-encodes}
-use Rattle.sentence.specs.Sentence.{Tag, Mark, none, word, unknown, code, Cells, final, cell, Sentence, textOf, marksOf, rowsOf, text, marks, rows, types, starts, numbers, listed, rowBytes, tagBytes, Char, Row, CellsOf, Formed}
+use Rattle.types.specs.TypeOf.{typeOf}
+use Rattle.sentence.specs.Sentence.{Tag, Mark, none, word, unknown, code, Cells, final, cell, Sentence, textOf, marksOf, rowsOf, text, marks, rows, types, starts, charPositions, bytePositions, listed, rowBytes, tagBytes, Char, Row, CellsOf, Formed}
+pub use Rattle.parts.proofs.Says.{length-starts, length-numbers}
 use Rattle.sheet.specs.declared.Record.{Record}
 use Rattle.sheet.specs.Layout.{Buffers, recordOf, tagsOf, rowEnds, tagEnds, bytesOf, lay, laid, roomFor, Front, Holds, pieces, markOf, link, spell}
 
@@ -55,8 +57,23 @@ unfolding tagsOf listed
 length-tagsOf [] = refl
 length-tagsOf (r ∷ rs) = rw length-append (omega (arith, length-tagsOf rs))
 
+pub length-bytesOf : (ts : List Tag) → length (bytesOf ts) ≡ rowBytes ts
+unfolding bytesOf rowBytes
+length-bytesOf [] = refl
+length-bytesOf (t ∷ ts) = rw length-append (omega (arith, length-encodes t, length-bytesOf ts))
+
+rowBytes-append : (ts us : List Tag) → rowBytes (ts ++ us) ≡ rowBytes ts + rowBytes us
+unfolding rowBytes
+rowBytes-append [] us = omega arith
+rowBytes-append (t ∷ ts) us = omega (arith, rowBytes-append ts us)
+
+pub bytes-tagsOf : (rs : List (List Tag)) → rowBytes (tagsOf rs) ≡ tagBytes rs
+unfolding tagsOf rowBytes tagBytes
+bytes-tagsOf [] = refl
+bytes-tagsOf (r ∷ rs) = omega (arith, rowBytes-append r (tagsOf rs), bytes-tagsOf rs)
+
 -- ---- each part gives back what it was made of
-marks-back : (ms : List Mark) → map markOf (map code ms) ≡ ms
+pub marks-back : (ms : List Mark) → map markOf (map code ms) ≡ ms
 unfolding markOf code
 marks-back [] = refl
 marks-back (none ∷ ms) = rw (marks-back ms)
@@ -99,57 +116,94 @@ unfolding tagsOf
 tags-chars n [] h = tt
 tags-chars n (r ∷ rs) h = All-append (All Char) r (tagsOf rs) (h .0 .chars) (tags-chars n rs (h .1))
 
--- ---- what each buffer has where a sentence is held, as far as the record counts it
-front : (part d : List ℕ) (n m : ℕ) → n ≡ m → length part ≡ m → Front part d → take n d ≡ part
-front part d n m e k h = rw (e, ← k) h
+-- ---- what the record and each buffer have where a sentence is held
+-- a buffer starts with a part of n elements
+pub record Part (n : ℕ) (part d : List ℕ) : Type 0 where
+  pub is : take n d ≡ part
+  pub fits : n ≤ length d
+
+part : (part d : List ℕ) (n m : ℕ) → n ≡ m → length part ≡ m → Front part d → Part n part d
+part p d n m e k h = record { is = rw (e, ← k) h; fits = omega (arith, ap length h, length-take (length p) d) }
 
 module _ {r : Record} {d : Buffers} {s : Sentence} (h : Holds r d s) where
-  n-is : r .n ≡ length (text s)
+  pub n-held : r .n ≡ length (text s)
   unfolding recordOf
-  n-is = rw (h .record-is)
+  n-held = rw (h .record-is)
 
-  b-is : r .b ≡ size (text s)
+  pub b-held : r .b ≡ size (text s)
   unfolding recordOf
-  b-is = rw (h .record-is)
+  b-held = rw (h .record-is)
 
-  k-is : r .k ≡ listed (rows s)
+  pub columns-held : r .columns ≡ s .columns
   unfolding recordOf
-  k-is = rw (h .record-is)
+  columns-held = rw (h .record-is)
 
-  pub text-held : take (r .b) (d .text-buf) ≡ encodes (text s)
+  pub k-held : r .k ≡ listed (rows s)
+  unfolding recordOf
+  k-held = rw (h .record-is)
+
+  pub g-held : r .g ≡ tagBytes (rows s)
+  unfolding recordOf
+  g-held = rw (h .record-is)
+
+  pub text-held : Part (r .b) (encodes (text s)) (d .text-buf)
   unfolding lay
-  text-held = front _ _ _ _ b-is (length-encodes (text s)) (h .text-at)
+  text-held = part _ _ _ _ b-held (length-encodes (text s)) (h .text-at)
 
-  pub boundaries-held : take (r .n - 1) (d .boundaries-buf) ≡ map code (marks s)
+  pub types-held : Part (r .n) (types (text s)) (d .types-buf)
+  unfolding lay
+  types-held = part _ _ _ _ n-held (length-map (text s) typeOf) (h .types-at)
+
+  pub boundaries-held : Part (r .n - 1) (map code (marks s)) (d .boundaries-buf)
   unfolding lay
   boundaries-held =
-      let e : r .n - 1 ≡ length (marks s) = omega (arith, n-is, length-marks (s .cells)) in
-      front _ _ _ _ e (length-map (marks s) code) (h .boundaries-at)
+      let e : r .n - 1 ≡ length (marks s) = omega (arith, n-held, length-marks (s .cells)) in
+      part _ _ _ _ e (length-map (marks s) code) (h .boundaries-at)
 
-  pub row-ends-held : take (r .n) (d .row-ends-buf) ≡ rowEnds 0 (rows s)
+  pub char-pos-held : Part (r .n + 1) (charPositions (text s)) (d .char-pos-buf)
   unfolding lay
-  row-ends-held = front _ _ _ _ n-is (length-rowEnds 0 (rows s) ∙ length-rows (s .cells)) (h .row-ends-at)
+  char-pos-held = part _ _ _ _ (rw n-held) (length-starts 0 (text s)) (h .char-pos-at)
 
-  pub tag-ends-held : take (r .k) (d .tag-ends-buf) ≡ tagEnds 0 (tagsOf (rows s))
+  pub byte-pos-held : Part (r .b + 1) (bytePositions (text s)) (d .byte-pos-buf)
   unfolding lay
-  tag-ends-held = front _ _ _ _ k-is (length-tagEnds 0 (tagsOf (rows s)) ∙ length-tagsOf (rows s)) (h .tag-ends-at)
+  byte-pos-held = part _ _ _ _ (rw b-held) (length-numbers 0 (text s)) (h .byte-pos-at)
+
+  pub row-ends-held : Part (r .n) (rowEnds 0 (rows s)) (d .row-ends-buf)
+  unfolding lay
+  row-ends-held = part _ _ _ _ n-held (length-rowEnds 0 (rows s) ∙ length-rows (s .cells)) (h .row-ends-at)
+
+  pub tag-ends-held : Part (r .k) (tagEnds 0 (tagsOf (rows s))) (d .tag-ends-buf)
+  unfolding lay
+  tag-ends-held = part _ _ _ _ k-held (length-tagEnds 0 (tagsOf (rows s)) ∙ length-tagsOf (rows s)) (h .tag-ends-at)
+
+  pub tag-bytes-held : Part (r .g) (bytesOf (tagsOf (rows s))) (d .tag-bytes-buf)
+  unfolding lay
+  tag-bytes-held = part _ _ _ _ g-held (length-bytesOf (tagsOf (rows s)) ∙ bytes-tagsOf (rows s)) (h .tag-bytes-at)
+
+  pub text-chars-held : All Char (text s)
+  text-chars-held = text-chars (s .columns) (s .cells) (h .formed .cells-are)
+
+  pub rows-held : All (Row (s .columns)) (rows s)
+  rows-held = rows-are (s .columns) (s .cells) (h .formed .cells-are)
+
+  pub tags-chars-held : All (All Char) (tagsOf (rows s))
+  tags-chars-held = tags-chars (s .columns) (rows s) rows-held
 
   tags-held : map scalars (pieces 0 (take (r .k) (d .tag-ends-buf)) (d .tag-bytes-buf)) ≡ tagsOf (rows s)
-  unfolding lay
   tags-held =
-      rw (tag-ends-held, ← (take-append-drop (length (bytesOf (tagsOf (rows s)))) (d .tag-bytes-buf)), h .tag-bytes-at)
-      (tags-back 0 (tagsOf (rows s)) _ (tags-chars (s .columns) (rows s) (rows-are (s .columns) (s .cells) (h .formed .cells-are))))
+      rw (tag-ends-held .is, ← (take-append-drop (r .g) (d .tag-bytes-buf)), tag-bytes-held .is)
+      (tags-back 0 (tagsOf (rows s)) _ tags-chars-held)
 
 pub spelled : (r : Record) (d : Buffers) (s : Sentence) → Holds r d s → spell r d ≡ s
 unfolding spell recordOf
 spelled r d s h =
     rw (
-      text-held h,
-      scalars-encodes (text s) (All-imp Char _ (λ c p. p .is-scalar) (text s) (text-chars (s .columns) (s .cells) (h .formed .cells-are))),
-      boundaries-held h,
+      text-held h .is,
+      scalars-encodes (text s) (All-imp Char _ (λ c p. p .is-scalar) (text s) (text-chars-held h)),
+      boundaries-held h .is,
       marks-back (marks s),
       tags-held h,
-      row-ends-held h,
+      row-ends-held h .is,
       rows-back 0 (rows s),
       cells-back (s .cells),
       h .record-is,

@@ -1,1 +1,4 @@
 pub mod Held
+pub mod Exact
+pub mod Look
+pub mod Whole

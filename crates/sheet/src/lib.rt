@@ -1,5 +1,9 @@
 // The sheet: a sentence in eight lent buffers, beside a record by value.
 use sentence::Refusal;
+ghost use mathlib.Core.Path.{_≡_};
+ghost use mathlib.Core.Bool.{_&&_};
+ghost use Rattle.sheet.specs.Layout.{buffers, roomFor};
+ghost use Rattle.sheet.specs.Check.{inLimits, isLaid, Room, isSheet};
 
 // How much of the buffers a sentence takes: characters, text bytes, tag columns, listed tags, tag bytes.
 pub struct Record {
@@ -27,4 +31,108 @@ pub enum Part {
     Bytes { start: usize, end: usize },
     Absent,
     Refused(Refusal),
+}
+
+// The limits on what a record counts.
+fn in_limits(r: Record) -> bool
+    ensures { λ ok. ⌜ ok ≡ inLimits r ⌝ }
+{
+    (1 <= r.n) & (r.b <= 4096) & (r.columns <= 4096) & (r.k <= 65535) & (r.g <= 65535)
+}
+
+// The limits, and room for what a record counts.
+fn fits(
+    r: Record,
+    text: &[u8],
+    types: &[u8],
+    boundaries: &[u8],
+    char_pos: &[u16],
+    byte_pos: &[u16],
+    row_ends: &[u16],
+    tag_ends: &[u16],
+    tag_bytes: &[u8],
+) -> bool
+    ensures { λ ok. ⌜ ok ≡ (inLimits r && roomFor r (buffers (now (text .entry)) (now (types .entry)) (now (boundaries .entry)) (now («char_pos» .entry)) (now («byte_pos» .entry)) (now («row_ends» .entry)) (now («tag_ends» .entry)) (now («tag_bytes» .entry)))) ⌝ }
+{
+    in_limits(r)
+        & ((r.b <= text.len())
+            & (r.n <= types.len())
+            & (r.n <= boundaries.len() + 1)
+            & (r.n < char_pos.len())
+            & (r.b < byte_pos.len())
+            & (r.n <= row_ends.len())
+            & (r.k <= tag_ends.len())
+            & (r.g <= tag_bytes.len()))
+}
+
+// What the record counts of the buffers, part by part.
+fn is_laid(
+    r: Record,
+    text: &[u8],
+    types: &[u8],
+    boundaries: &[u8],
+    char_pos: &[u16],
+    byte_pos: &[u16],
+    row_ends: &[u16],
+    tag_ends: &[u16],
+    tag_bytes: &[u8],
+) -> bool
+    requires { ⌜ Room r (buffers (now text) (now types) (now boundaries) (now «char_pos») (now «byte_pos») (now «row_ends») (now «tag_ends») (now «tag_bytes»)) ⌝ }
+    ensures { λ ok. ⌜ ok ≡ isLaid r (buffers (now (text .entry)) (now (types .entry)) (now (boundaries .entry)) (now («char_pos» .entry)) (now («byte_pos» .entry)) (now («row_ends» .entry)) (now («tag_ends» .entry)) (now («tag_bytes» .entry))) ⌝ }
+{
+    if !parts::is_text(
+        &text[..r.b],
+        &types[..r.n],
+        &char_pos[..r.n + 1],
+        &byte_pos[..r.b + 1],
+    ) {
+        return false;
+    }
+    if !parts::are_marks(&boundaries[..r.n - 1]) {
+        return false;
+    }
+    if !parts::are_tags(&tag_bytes[..r.g], &tag_ends[..r.k]) {
+        return false;
+    }
+    parts::are_rows(r.columns, &tag_ends[..r.k], &row_ends[..r.n])
+}
+
+// Whether the record and the buffers are a sheet: a sentence as laid out, within the limits.
+pub fn check(
+    r: Record,
+    text: &[u8],
+    types: &[u8],
+    boundaries: &[u8],
+    char_pos: &[u16],
+    byte_pos: &[u16],
+    row_ends: &[u16],
+    tag_ends: &[u16],
+    tag_bytes: &[u8],
+) -> bool
+    ensures { λ ok. ⌜ ok ≡ isSheet r (buffers (now (text .entry)) (now (types .entry)) (now (boundaries .entry)) (now («char_pos» .entry)) (now («byte_pos» .entry)) (now («row_ends» .entry)) (now («tag_ends» .entry)) (now («tag_bytes» .entry))) ⌝ }
+{
+    if !fits(
+        r,
+        text,
+        types,
+        boundaries,
+        char_pos,
+        byte_pos,
+        row_ends,
+        tag_ends,
+        tag_bytes,
+    ) {
+        return false;
+    }
+    is_laid(
+        r,
+        text,
+        types,
+        boundaries,
+        char_pos,
+        byte_pos,
+        row_ends,
+        tag_ends,
+        tag_bytes,
+    )
 }

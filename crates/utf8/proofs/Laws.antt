@@ -1,14 +1,16 @@
 -- What the loops over `decode` need of the specification. Assumes nothing.
 use Prim.Native.Nat.{ℕ, suc, _+_, _≤_, _<_}
 use native.Mathlib.Omega.{arith}
+use native.Mathlib.Decide.{decLe}
 use mathlib.Core.Path.{_≡_, sym, ap, _∙_}
 use mathlib.Core.List.{List, [], _∷_}
-use lib.ListN.{length, getD, drop, drop-of-length-le}
+use lib.ListN.{length, getD, drop, length-take, length-drop, drop-of-length-le}
 use lib.Seq.{drop-cons, getD-drop, drop-drop}
+use Rattle.laws.specs.If.{if-both}
 use Rattle.utf8.specs.declared.Decoded.{Decoded}
 use Rattle.utf8.specs.declared.Decoded.the-variants.{Char, Bad, End}
-use Rattle.utf8.specs.Utf8.{charOf, charAt, decodeAt, chars, wholes, validPrefix}
-use Rattle.utf8.proofs.Codec.{encode-decode, width-small}
+use Rattle.utf8.specs.Utf8.{charOf, charAt, decodeAt, chars, wholes, validPrefix, width}
+use Rattle.utf8.proofs.Codec.{encode-decode, width-small, length-encode}
 use Rattle.utf8.proofs.Walk.{walk-char, walk-bad, walk-end}
 
 -- ---- what stands at a place, by its bytes
@@ -22,6 +24,28 @@ decode-in s at h = rw (drop-cons s at 0 h, nth s at 0 (at + 1) (omega arith), nt
 pub decode-out : (s : List ℕ) (at : ℕ) → length s ≤ at → decodeAt s at ≡ End
 unfolding decodeAt
 decode-out s at h = ap charAt (drop-of-length-le s h)
+
+-- where a place stands, by what is found there
+char-some : (a b c d : ℕ) → charOf a b c d ≡ End → ⊥
+unfolding charOf
+char-some a b c d =
+    if-both Some _ _ _ never
+    (if-both Some _ _ _ never
+    (if-both Some _ _ _ never
+    (if-both Some _ _ _ never
+    (λ e. let z : _≡_ {A = ℕ} 0 1 = cc in omega arith))))
+  where
+    Some : Decoded → Type 0
+    Some r = r ≡ End → ⊥
+
+    never : {v n : ℕ} → Char v n ≡ End → ⊥
+    never e = let z : _≡_ {A = ℕ} 0 1 = cc in omega arith
+
+pub end-past : (s : List ℕ) (at : ℕ) → decodeAt s at ≡ End → length s ≤ at
+end-past s at e = elim (decLe (length s) at) [ yes h ↦ h | no h ↦ absurd (char-some _ _ _ _ (sym (decode-in s at (omega arith)) ∙ e)) ]
+
+pub bad-inside : (s : List ℕ) (at : ℕ) → decodeAt s at ≡ Bad → at < length s
+bad-inside s at e = elim (decLe (length s) at) [ yes h ↦ (let k = decode-out s at h in let z : _≡_ {A = ℕ} 0 1 = cc in absurd (omega arith)) | no h ↦ omega arith ]
 
 -- ---- a character's length
 pub len-ok : (s : List ℕ) (at v n : ℕ) → decodeAt s at ≡ Char v n → (1 ≤ n) × (n ≤ 4)
@@ -40,6 +64,18 @@ len-met s at v n d p q = let h = len-ok s at v n (sym p ∙ q) in record { some 
 pub chars-char : (s : List ℕ) (at v n : ℕ) → decodeAt s at ≡ Char v n → chars (drop at s) ≡ Char v n ∷ chars (drop (at + n) s)
 unfolding decodeAt
 chars-char s at v n e = walk-char (drop at s) v n e (len-ok s at v n e .0) ∙ rw drop-drop
+
+-- its value and its bytes
+pub width-at : (s : List ℕ) (at v n : ℕ) → decodeAt s at ≡ Char v n → n ≡ width v
+unfolding decodeAt
+width-at s at v n e = encode-decode (drop at s) v n e .wide
+
+-- it ends within the text
+pub char-within : (s : List ℕ) (at v n : ℕ) → at ≤ length s → decodeAt s at ≡ Char v n → at + n ≤ length s
+unfolding decodeAt
+char-within s at v n l e =
+    let c = encode-decode (drop at s) v n e in
+    omega (arith, ap length (c .bytes), length-take n (drop at s), length-drop at s, length-encode v, c .wide)
 
 pub chars-bad : (s : List ℕ) (at : ℕ) → decodeAt s at ≡ Bad → chars (drop at s) ≡ Bad ∷ []
 unfolding decodeAt

@@ -78,14 +78,17 @@ fn line_end(text: &[u8], at: usize) -> usize
     i
 }
 
+// Writes a byte as two digits.
 fn show_byte(b: u8) {
     io::print_hex(1, b as u64, 2);
 }
 
+// The number of four bytes, the highest first.
 fn number(a: u8, b: u8, c: u8, d: u8) -> u32 {
     ((a as u32 * 256 + b as u32) * 256 + c as u32) * 256 + d as u32
 }
 
+// A byte as a place.
 fn wide(b: u8) -> usize {
     b as usize
 }

@@ -1,0 +1,69 @@
+// The changes for those who have checked the sheet.
+use sheet::Answer;
+use sheet::Record;
+ghost use mathlib.Core.Path.{_≡_};
+ghost use mathlib.Core.List.{_++_};
+ghost use Prim.Native.Nat.{_-_, _≤_, _<_};
+ghost use lib.ListN.{length, drop, replicate};
+ghost use Rattle.sentence.specs.Writing.{setBoundary, resetTags};
+ghost use Rattle.sheet.specs.Layout.{buffers, spell, Sheet, markOf};
+ghost use Rattle.changes.specs.Changes.{Laid};
+
+// Sets a boundary.
+pub fn set_boundary(
+    r: Record,
+    text: &[u8],
+    types: &[u8],
+    boundaries: &mut [u8],
+    char_pos: &[u16],
+    byte_pos: &[u16],
+    row_ends: &[u16],
+    tag_ends: &[u16],
+    tag_bytes: &[u8],
+    i: usize,
+    value: u8,
+) -> Answer
+    requires { ⌜ Sheet r (buffers (now text) (now types) (now boundaries) (now «char_pos») (now «byte_pos») (now «row_ends») (now «tag_ends») (now «tag_bytes»)) × (i < r .n - 1) × (value ≤ 2) ⌝ }
+    ensures { λ a. ⌜ Laid (setBoundary i (markOf value) (spell r (buffers (now (text .entry)) (now (types .entry)) (now (boundaries .entry)) (now («char_pos» .entry)) (now («byte_pos» .entry)) (now («row_ends» .entry)) (now («tag_ends» .entry)) (now («tag_bytes» .entry))))) (buffers (now (text .entry)) (now (types .entry)) (now (boundaries .entry)) (now («char_pos» .entry)) (now («byte_pos» .entry)) (now («row_ends» .entry)) (now («tag_ends» .entry)) (now («tag_bytes» .entry))) a (buffers (now (text .entry)) (now (types .entry)) (now (boundaries .exit)) (now («char_pos» .entry)) (now («byte_pos» .entry)) (now («row_ends» .entry)) (now («tag_ends» .entry)) (now («tag_bytes» .entry))) ⌝ }
+{
+    boundaries[i] = value;
+    Answer::Sentence(r)
+}
+
+// The first n row ends become 0.
+pub fn clear(row_ends: &mut [u16], n: usize)
+    requires { ⌜ n ≤ length (now «row_ends») ⌝ }
+    ensures { λ _. ⌜ now («row_ends» .exit) ≡ replicate n 0 ++ drop n (now («row_ends» .entry)) ⌝ }
+{
+    let mut i = 0;
+    while i < n {
+        row_ends[i] = 0;
+        i += 1;
+    }
+}
+
+// Makes all tags absent, and the columns c.
+pub fn reset_tags(
+    r: Record,
+    text: &[u8],
+    types: &[u8],
+    boundaries: &[u8],
+    char_pos: &[u16],
+    byte_pos: &[u16],
+    row_ends: &mut [u16],
+    tag_ends: &[u16],
+    tag_bytes: &[u8],
+    c: usize,
+) -> Answer
+    requires { ⌜ Sheet r (buffers (now text) (now types) (now boundaries) (now «char_pos») (now «byte_pos») (now «row_ends») (now «tag_ends») (now «tag_bytes»)) ⌝ }
+    ensures { λ a. ⌜ Laid (resetTags c (spell r (buffers (now (text .entry)) (now (types .entry)) (now (boundaries .entry)) (now («char_pos» .entry)) (now («byte_pos» .entry)) (now («row_ends» .entry)) (now («tag_ends» .entry)) (now («tag_bytes» .entry))))) (buffers (now (text .entry)) (now (types .entry)) (now (boundaries .entry)) (now («char_pos» .entry)) (now («byte_pos» .entry)) (now («row_ends» .entry)) (now («tag_ends» .entry)) (now («tag_bytes» .entry))) a (buffers (now (text .entry)) (now (types .entry)) (now (boundaries .entry)) (now («char_pos» .entry)) (now («byte_pos» .entry)) (now («row_ends» .exit)) (now («tag_ends» .entry)) (now («tag_bytes» .entry))) ⌝ }
+{
+    clear(row_ends, r.n);
+    Answer::Sentence(Record {
+        n: r.n,
+        b: r.b,
+        columns: c,
+        k: 0,
+        g: 0,
+    })
+}

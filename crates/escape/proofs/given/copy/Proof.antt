@@ -1,0 +1,60 @@
+-- `escape::given::copy` meets its contract. The invariant: what is left to write is the part from i on. Assumes nothing.
+use Prim.Native.Nat.{_-_, _≤_}
+use lib.ListN.{take, drop}
+use borrow.Author.Needs.{needs}
+use Rattle.laws.specs.Put.{left-step, left-none}
+use Rattle.escape.specs.Wrote.{Writing, writes}
+use Rattle.escape.proofs.Bytes.{copy-room}
+use Rattle.escape.proofs.given.copy.Statement.{statement}
+use Rattle.escape.proofs.given.copy.Tie as tie
+
+abbrev Inv-loop : tie.InvT-loop
+Inv-loop src from to out₀ at i₀ n₀ out i n =
+    let part = drop from (take to src) in
+    (i ≤ to) × Writing out₀ at part out n (drop i (take to src))
+
+abbrev μ-loop : tie.MeasureT-loop
+μ-loop src from to out₀ at i₀ n₀ out i n = to - i
+
+loop-holds : tie.Need-loop-holds Inv-loop μ-loop
+loop-holds c = search (writes, left-step, left-none, needs)
+
+shared-slice-read-out : tie.Need-shared-slice-read-out Inv-loop μ-loop
+shared-slice-read-out c = search (writes, left-step, left-none, needs)
+
+slice-write-out : tie.Need-slice-write-out Inv-loop μ-loop
+slice-write-out c = search (copy-room, needs)
+
+add-n : tie.Need-add-n Inv-loop μ-loop
+add-n c = search (writes, left-step, left-none, needs)
+
+add-i : tie.Need-add-i Inv-loop μ-loop
+add-i c = search (writes, left-step, left-none, needs)
+
+loop-less : tie.Need-loop-less Inv-loop μ-loop
+loop-less c = search (writes, left-step, left-none, needs)
+
+loop-again : tie.Need-loop-again Inv-loop μ-loop
+loop-again c = search (writes, left-step, left-none, needs)
+
+same-length : tie.Need-same-length Inv-loop μ-loop
+same-length c = search (writes, left-step, left-none, needs)
+
+returns : tie.Need-returns Inv-loop μ-loop
+returns c = search (writes, left-step, left-none, needs)
+
+pub copy-spec : {M : Type 1} → statement M
+copy-spec =
+    tie.close
+    (tie.spec
+    Inv-loop
+    μ-loop
+    loop-holds
+    shared-slice-read-out
+    slice-write-out
+    add-n
+    add-i
+    loop-less
+    loop-again
+    same-length
+    returns)

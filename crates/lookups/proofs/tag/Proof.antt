@@ -1,0 +1,29 @@
+-- `lookups::tag` meets its contract. Assumes nothing.
+use Rattle.sheet.specs.declared.Part.the-variants.{Refused}
+use borrow.Author.Tests.{leb-false}
+use Rattle.sheet.proofs.Look.{neither, broken, outside, inside, checked, bounds}
+use Rattle.lookups.specs.Answers.{tagAt}
+use borrow.Author.Needs.{needs}
+use Rattle.lookups.proofs.tag.Statement.{statement}
+use Rattle.lookups.proofs.tag.Tie as tie
+
+check-requires : tie.Need-check-requires
+check-requires c κs = search needs
+
+returns : tie.Need-returns
+unfolding tagAt
+returns c = broken Refused _ _ _ _ _ (c .before .check .ensures) (c .if1 .taken)
+
+returns-2 : tie.Need-returns-2
+unfolding tagAt
+returns-2 c = outside Refused _ _ _ _ _ (c .before .before .before .before .check .ensures) (c .before .before .before .if1 .left) (rw (← (bounds (checked _ _ _ (c .before .before .before .before .check .ensures) (c .before .before .before .if1 .left)) .n-is), ← (bounds (checked _ _ _ (c .before .before .before .before .check .ensures) (c .before .before .before .if1 .left)) .columns-is)) (c .if2 .taken))
+
+tag-requires : tie.Need-tag-requires
+tag-requires c κs = ((checked _ _ _ (c .before .before .before .before .check .ensures) (c .before .before .before .if1 .left)), leb-false _ _ (neither _ _ (c .if2 .left) .0))
+
+returns-3 : tie.Need-returns-3
+unfolding tagAt
+returns-3 c = inside Refused _ _ _ _ _ (c .before .before .before .before .before .check .ensures) (c .before .before .before .before .if1 .left) (rw (← (bounds (checked _ _ _ (c .before .before .before .before .before .check .ensures) (c .before .before .before .before .if1 .left)) .n-is), ← (bounds (checked _ _ _ (c .before .before .before .before .before .check .ensures) (c .before .before .before .before .if1 .left)) .columns-is)) (c .before .if2 .left)) _ (c .tag .ensures)
+
+pub tag-spec : {M : Type 1} → statement M
+tag-spec = tie.close (tie.spec check-requires returns returns-2 tag-requires returns-3)

@@ -1,0 +1,81 @@
+-- What the look-ups answer, of whether there is a sheet and of the sentence that it spells: 13 where there is none, then 14 at the first number given.
+use Prim.Native.Nat.{ℕ, zero, suc, _+_, _-_}
+use mathlib.Core.Bool.{Bool, false, not, _&&_, _||_}
+use mathlib.Core.List.{List, [], _∷_}
+use lib.Dec.{leb, ltb, eqb}
+use lib.ListN.{length, take, drop, getD}
+use Rattle.laws.specs.If.{if_then_else_}
+use Rattle.utf8.specs.Utf8.{size}
+use Rattle.sentence.specs.Sentence.{Tag, none, code, Sentence, text, marks, rows, count, charPositions, bytePositions, rowBytes, tagBytes}
+use Rattle.sentence.specs.Refusals.{verdict, sheetOrder}
+use Rattle.sheet.specs.declared.Number.{Number}
+use Rattle.sheet.specs.declared.Number.the-variants as number
+use Rattle.sheet.specs.declared.Part.{Part}
+use Rattle.sheet.specs.declared.Part.the-variants as part
+
+-- the byte position of character i; at N it is B
+abbrev pub startAt : Sentence → ℕ → ℕ
+startAt s i = getD (charPositions (text s)) i 0
+
+-- a character position is at most N
+unfoldable pub charToStrPos : Bool → Sentence → ℕ → Number
+charToStrPos good s i = verdict number.Refused (sheetOrder (not good) (ltb (count s) i) i false 0) (number.Is (startAt s i))
+
+-- a number stands in a list
+unfoldable pub found : ℕ → List ℕ → Bool
+found p [] = false
+found p (q ∷ qs) = eqb p q || found p qs
+
+-- a byte position is at most B, and not inside a character
+unfoldable pub strToCharPos : Bool → Sentence → ℕ → Number
+strToCharPos good s p =
+    verdict number.Refused (sheetOrder (not good) (ltb (size (text s)) p || not (found p (charPositions (text s)))) p false 0)
+    (number.Is (getD (bytePositions (text s)) p 0))
+
+-- the number of boundary i
+abbrev pub markAt : Sentence → ℕ → ℕ
+markAt s i = code (getD (marks s) i none)
+
+-- a boundary index is below N-1
+unfoldable pub boundaryAt : Bool → Sentence → ℕ → Number
+boundaryAt good s i = verdict number.Refused (sheetOrder (not good) (leb (count s - 1) i) i false 0) (number.Is (markAt s i))
+
+-- the tag of a cell; those past the row are absent
+abbrev pub cell : Sentence → ℕ → ℕ → Tag
+cell s row column = getD (getD (rows s) row []) column []
+
+-- where it starts among the tag bytes: behind the tags of the rows before, and those before it in its row
+unfoldable pub cellStart : List (List Tag) → ℕ → ℕ → ℕ
+cellStart rs row column = tagBytes (take row rs) + rowBytes (take column (getD rs row []))
+
+-- the part of a tag that starts at a byte; an absent one has none
+unfoldable pub tagPart : ℕ → Tag → Part
+tagPart at [] = part.Absent
+tagPart at (c ∷ t) = part.Bytes at (at + size (c ∷ t))
+
+-- a cell's row is below N, its column below the columns
+unfoldable pub tagAt : Bool → Sentence → ℕ → ℕ → Part
+tagAt good s row column =
+    verdict part.Refused (sheetOrder (not good) (leb (count s) row || leb (s .columns) column) row false 0)
+    (tagPart (cellStart (rows s) row column) (cell s row column))
+
+-- the text from the one character's start up to the other's
+abbrev pub surfacePart : Sentence → ℕ → ℕ → Part
+surfacePart s b e = part.Bytes (startAt s b) (startAt s e)
+
+-- a surface's start is below its end, and that at most N
+unfoldable pub surfaceAt : Bool → Sentence → ℕ → ℕ → Part
+surfaceAt good s b e =
+    verdict part.Refused (sheetOrder (not good) (leb e b || ltb (count s) e) b false 0)
+    (surfacePart s b e)
+
+-- the bytes of a part; none where it is absent, refused or out of range
+unfoldable pub bytesOf : List ℕ → Part → List ℕ
+bytesOf l (part.Bytes b e) = if leb b e && leb e (length l) then take (e - b) (drop b l) else []
+bytesOf l part.Absent = []
+bytesOf l (part.Refused x) = []
+
+-- where the i-th of some parts begins that end where told: the end before it
+abbrev pub edge : List ℕ → ℕ → ℕ
+edge ends zero = 0
+edge ends (suc i) = getD ends i 0

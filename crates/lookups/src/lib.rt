@@ -1,0 +1,288 @@
+// Look-ups in a sentence that lies in lent buffers. Each answers 13 where there is no sheet, then 14 where a number is out of range.
+use sentence::Refusal;
+use sheet::Number;
+use sheet::Part;
+use sheet::Record;
+ghost use mathlib.Core.Path.{_≡_};
+ghost use Rattle.sheet.specs.Layout.{buffers, spell};
+ghost use Rattle.sheet.specs.Check.{isSheet};
+ghost use Rattle.lookups.specs.Answers.{charToStrPos, strToCharPos, boundaryAt, tagAt, surfaceAt, bytesOf};
+
+pub mod given;
+
+// The byte position of character i.
+pub fn char_to_str_pos(
+    r: Record,
+    text: &[u8],
+    types: &[u8],
+    boundaries: &[u8],
+    char_pos: &[u16],
+    byte_pos: &[u16],
+    row_ends: &[u16],
+    tag_ends: &[u16],
+    tag_bytes: &[u8],
+    i: usize,
+) -> Number
+    ensures { λ a. ⌜ a ≡ charToStrPos (isSheet r (buffers (now (text .entry)) (now (types .entry)) (now (boundaries .entry)) (now («char_pos» .entry)) (now («byte_pos» .entry)) (now («row_ends» .entry)) (now («tag_ends» .entry)) (now («tag_bytes» .entry)))) (spell r (buffers (now (text .entry)) (now (types .entry)) (now (boundaries .entry)) (now («char_pos» .entry)) (now («byte_pos» .entry)) (now («row_ends» .entry)) (now («tag_ends» .entry)) (now («tag_bytes» .entry)))) i ⌝ }
+{
+    if !sheet::check(
+        r,
+        text,
+        types,
+        boundaries,
+        char_pos,
+        byte_pos,
+        row_ends,
+        tag_ends,
+        tag_bytes,
+    ) {
+        return Number::Refused(Refusal {
+            number: 13,
+            place: 0,
+        });
+    }
+    if i > r.n {
+        return Number::Refused(Refusal {
+            number: 14,
+            place: i,
+        });
+    }
+    let p = given::char_to_str_pos(
+        r,
+        text,
+        types,
+        boundaries,
+        char_pos,
+        byte_pos,
+        row_ends,
+        tag_ends,
+        tag_bytes,
+        i,
+    );
+    Number::Is(p)
+}
+
+// The character of byte position p.
+pub fn str_to_char_pos(
+    r: Record,
+    text: &[u8],
+    types: &[u8],
+    boundaries: &[u8],
+    char_pos: &[u16],
+    byte_pos: &[u16],
+    row_ends: &[u16],
+    tag_ends: &[u16],
+    tag_bytes: &[u8],
+    p: usize,
+) -> Number
+    ensures { λ a. ⌜ a ≡ strToCharPos (isSheet r (buffers (now (text .entry)) (now (types .entry)) (now (boundaries .entry)) (now («char_pos» .entry)) (now («byte_pos» .entry)) (now («row_ends» .entry)) (now («tag_ends» .entry)) (now («tag_bytes» .entry)))) (spell r (buffers (now (text .entry)) (now (types .entry)) (now (boundaries .entry)) (now («char_pos» .entry)) (now («byte_pos» .entry)) (now («row_ends» .entry)) (now («tag_ends» .entry)) (now («tag_bytes» .entry)))) p ⌝ }
+{
+    if !sheet::check(
+        r,
+        text,
+        types,
+        boundaries,
+        char_pos,
+        byte_pos,
+        row_ends,
+        tag_ends,
+        tag_bytes,
+    ) {
+        return Number::Refused(Refusal {
+            number: 13,
+            place: 0,
+        });
+    }
+    if p > r.b {
+        return Number::Refused(Refusal {
+            number: 14,
+            place: p,
+        });
+    }
+    given::str_to_char_pos(
+        r,
+        text,
+        types,
+        boundaries,
+        char_pos,
+        byte_pos,
+        row_ends,
+        tag_ends,
+        tag_bytes,
+        p,
+    )
+}
+
+// The number of boundary i.
+pub fn boundary(
+    r: Record,
+    text: &[u8],
+    types: &[u8],
+    boundaries: &[u8],
+    char_pos: &[u16],
+    byte_pos: &[u16],
+    row_ends: &[u16],
+    tag_ends: &[u16],
+    tag_bytes: &[u8],
+    i: usize,
+) -> Number
+    ensures { λ a. ⌜ a ≡ boundaryAt (isSheet r (buffers (now (text .entry)) (now (types .entry)) (now (boundaries .entry)) (now («char_pos» .entry)) (now («byte_pos» .entry)) (now («row_ends» .entry)) (now («tag_ends» .entry)) (now («tag_bytes» .entry)))) (spell r (buffers (now (text .entry)) (now (types .entry)) (now (boundaries .entry)) (now («char_pos» .entry)) (now («byte_pos» .entry)) (now («row_ends» .entry)) (now («tag_ends» .entry)) (now («tag_bytes» .entry)))) i ⌝ }
+{
+    if !sheet::check(
+        r,
+        text,
+        types,
+        boundaries,
+        char_pos,
+        byte_pos,
+        row_ends,
+        tag_ends,
+        tag_bytes,
+    ) {
+        return Number::Refused(Refusal {
+            number: 13,
+            place: 0,
+        });
+    }
+    if i >= r.n - 1 {
+        return Number::Refused(Refusal {
+            number: 14,
+            place: i,
+        });
+    }
+    let m = given::boundary(
+        r,
+        text,
+        types,
+        boundaries,
+        char_pos,
+        byte_pos,
+        row_ends,
+        tag_ends,
+        tag_bytes,
+        i,
+    );
+    Number::Is(m)
+}
+
+// The part of a cell's tag in the tag bytes.
+pub fn tag(
+    r: Record,
+    text: &[u8],
+    types: &[u8],
+    boundaries: &[u8],
+    char_pos: &[u16],
+    byte_pos: &[u16],
+    row_ends: &[u16],
+    tag_ends: &[u16],
+    tag_bytes: &[u8],
+    row: usize,
+    column: usize,
+) -> Part
+    ensures { λ a. ⌜ a ≡ tagAt (isSheet r (buffers (now (text .entry)) (now (types .entry)) (now (boundaries .entry)) (now («char_pos» .entry)) (now («byte_pos» .entry)) (now («row_ends» .entry)) (now («tag_ends» .entry)) (now («tag_bytes» .entry)))) (spell r (buffers (now (text .entry)) (now (types .entry)) (now (boundaries .entry)) (now («char_pos» .entry)) (now («byte_pos» .entry)) (now («row_ends» .entry)) (now («tag_ends» .entry)) (now («tag_bytes» .entry)))) row column ⌝ }
+{
+    if !sheet::check(
+        r,
+        text,
+        types,
+        boundaries,
+        char_pos,
+        byte_pos,
+        row_ends,
+        tag_ends,
+        tag_bytes,
+    ) {
+        return Part::Refused(Refusal {
+            number: 13,
+            place: 0,
+        });
+    }
+    if (row >= r.n) | (column >= r.columns) {
+        return Part::Refused(Refusal {
+            number: 14,
+            place: row,
+        });
+    }
+    given::tag(
+        r,
+        text,
+        types,
+        boundaries,
+        char_pos,
+        byte_pos,
+        row_ends,
+        tag_ends,
+        tag_bytes,
+        row,
+        column,
+    )
+}
+
+// The part of the text from one character up to another.
+pub fn surface(
+    r: Record,
+    text: &[u8],
+    types: &[u8],
+    boundaries: &[u8],
+    char_pos: &[u16],
+    byte_pos: &[u16],
+    row_ends: &[u16],
+    tag_ends: &[u16],
+    tag_bytes: &[u8],
+    start: usize,
+    end: usize,
+) -> Part
+    ensures { λ a. ⌜ a ≡ surfaceAt (isSheet r (buffers (now (text .entry)) (now (types .entry)) (now (boundaries .entry)) (now («char_pos» .entry)) (now («byte_pos» .entry)) (now («row_ends» .entry)) (now («tag_ends» .entry)) (now («tag_bytes» .entry)))) (spell r (buffers (now (text .entry)) (now (types .entry)) (now (boundaries .entry)) (now («char_pos» .entry)) (now («byte_pos» .entry)) (now («row_ends» .entry)) (now («tag_ends» .entry)) (now («tag_bytes» .entry)))) start end ⌝ }
+{
+    if !sheet::check(
+        r,
+        text,
+        types,
+        boundaries,
+        char_pos,
+        byte_pos,
+        row_ends,
+        tag_ends,
+        tag_bytes,
+    ) {
+        return Part::Refused(Refusal {
+            number: 13,
+            place: 0,
+        });
+    }
+    if (start >= end) | (end > r.n) {
+        return Part::Refused(Refusal {
+            number: 14,
+            place: start,
+        });
+    }
+    given::surface(
+        r,
+        text,
+        types,
+        boundaries,
+        char_pos,
+        byte_pos,
+        row_ends,
+        tag_ends,
+        tag_bytes,
+        start,
+        end,
+    )
+}
+
+// The bytes of a part that a look-up answered.
+pub fn part_of<'a>(bytes: &'a [u8], p: Part) -> &'a [u8]
+    ensures { λ r. ⌜ now r ≡ bytesOf (now (bytes .entry)) p ⌝ }
+{
+    match p {
+        Part::Bytes { start, end } => {
+            if (start <= end) & (end <= bytes.len()) {
+                return &bytes[start..end];
+            }
+            &bytes[..0]
+        }
+        Part::Absent => &bytes[..0],
+        Part::Refused(_) => &bytes[..0],
+    }
+}

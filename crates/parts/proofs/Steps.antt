@@ -1,0 +1,283 @@
+-- What the loops of the check need of the tests: a test of what is left is a test of the next thing and of what is left then. Assumes nothing.
+use Prim.Native.Nat.{ℕ, zero, suc, _+_, _-_, _≤_, _<_}
+use native.Mathlib.Omega.{arith}
+use mathlib.Core.Path.{_≡_, refl, sym, ap, _∙_}
+use mathlib.Core.Bool.{Bool, true, false, not, _&&_, and-assoc, and-true, and-false}
+use mathlib.Core.List.{List, [], _∷_, _++_}
+use borrow.Author.Tests.{eq-eqb, eqb-true, ne-eqb, eqb-false, le-leb, lt-leb, not-true, not-false}
+use lib.Dec.{eqb, leb, ltb, eqb·zero-suc, eqb·suc-zero}
+use lib.ListN.{length, take, drop, getD, length-take, length-drop, replicate}
+use lib.Seq.{drop-drop}
+use Rattle.laws.specs.Put.{drop-step, drop-none}
+use Rattle.utf8.specs.declared.Decoded.{Decoded}
+use Rattle.utf8.specs.declared.Decoded.the-variants.{Char, Bad, End}
+use Rattle.utf8.specs.Utf8.{decodeAt, walk, wholes, values, scalars, validPrefix, width}
+use Rattle.utf8.proofs.Codec.{encode-decode, width-small, length-encode}
+use Rattle.utf8.proofs.Laws.{chars-char, chars-bad, chars-end}
+use Rattle.types.specs.TypeOf.{typeOf}
+use Rattle.sentence.specs.Sentence.{types, starts, numbers}
+use Rattle.parts.specs.Parts.{same, zeros, noNul, isPlain, isChar, CharFits, isText, Places, areMarks, chain, isTag, present, isRow}
+
+-- ---- a test of the whole that is one of what is left
+pub record Left (whole rest : Bool) : Type 0 where
+  pub is : whole ≡ rest
+
+pub left-go : (w x a y : Bool) → Left w x → x ≡ (a && y) → a ≡ true → Left w y
+left-go w x a y l e t = record { is = l .is ∙ e ∙ rw t }
+
+pub left-no : (w x a y : Bool) → Left w x → x ≡ (a && y) → a ≡ false → false ≡ w
+left-no w x a y l e t = sym (l .is ∙ e ∙ rw t)
+
+pub left-is : (w x y : Bool) → Left w x → x ≡ y → y ≡ w
+left-is w x y l e = sym (l .is ∙ e)
+
+-- ---- lists
+pub zeros-step : (d : List ℕ) (i : ℕ) → i < length d → zeros (drop i d) ≡ (eqb (getD d i 0) 0 && zeros (drop (i + 1) d))
+unfolding zeros
+zeros-step d i h = rw (drop-step i d h)
+
+pub zeros-done : (d : List ℕ) (i : ℕ) → length d ≤ i → zeros (drop i d) ≡ true
+unfolding zeros
+zeros-done d i h = rw (drop-none i d h)
+
+pub marks-step : (d : List ℕ) (i : ℕ) → i < length d → areMarks (drop i d) ≡ (leb (getD d i 0) 2 && areMarks (drop (i + 1) d))
+unfolding areMarks
+marks-step d i h = rw (drop-step i d h)
+
+pub marks-done : (d : List ℕ) (i : ℕ) → length d ≤ i → areMarks (drop i d) ≡ true
+unfolding areMarks
+marks-done d i h = rw (drop-none i d h)
+
+-- ---- parts that end one after another
+pub record Chained (test : ℕ → ℕ → Bool) (last : ℕ) (es : List ℕ) (g i : ℕ) : Type 0 where
+  pub is : chain test last 0 es ≡ chain test last g (drop i es)
+
+module _ (test : ℕ → ℕ → Bool) (last : ℕ) (es : List ℕ) (g i : ℕ) (h : Chained test last es g i) where
+  chain-step : i < length es → chain test last 0 es ≡ (test g (getD es i 0) && chain test last (getD es i 0) (drop (i + 1) es))
+  unfolding chain
+  chain-step l = h .is ∙ rw (drop-step i es l)
+
+  pub chain-go : (ok : Bool) → i < length es → ok ≡ test g (getD es i 0) → not ok ≡ false → Chained test last es (getD es i 0) (i + 1)
+  chain-go ok l e t = record { is = chain-step l ∙ rw (← e, not-false ok t) }
+
+  pub chain-no : (ok : Bool) → i < length es → ok ≡ test g (getD es i 0) → not ok ≡ true → false ≡ chain test last 0 es
+  chain-no ok l e t = sym (chain-step l ∙ rw (← e, not-true ok t))
+
+  pub chain-done : length es ≤ i → eqb g last ≡ chain test last 0 es
+  unfolding chain
+  chain-done l = sym (h .is ∙ rw (drop-none i es l))
+
+-- ---- one tag and one row
+module _ (s : List ℕ) (g e : ℕ) where
+  pub tag-falls : e < g → false ≡ isTag s g e
+  unfolding isTag
+  tag-falls h = rw (lt-leb g e h)
+
+  pub tag-past : g ≤ e → length s < e → false ≡ isTag s g e
+  unfolding isTag
+  tag-past h l = rw (le-leb g e h, lt-leb e (length s) l)
+
+  pub tag-plain : (r : Bool) → g ≤ e → e ≤ length s → r ≡ isPlain (take (e - g) (drop g s)) → r ≡ isTag s g e
+  unfolding isTag
+  tag-plain r h l p = rw (p, le-leb g e h, le-leb e (length s) l)
+
+pub end-before : (es : List ℕ) (j : ℕ) → (j ≡ 0 → ⊥) → getD es (j - 1) 0 ≡ getD (0 ∷ es) j 0
+end-before es zero h = absurd (h refl)
+end-before es (suc j) h = let q : suc j - 1 ≡ j = omega arith in rw q
+
+module _ (n : ℕ) (ts : List ℕ) (k e : ℕ) where
+  pub row-falls : e < k → false ≡ isRow n ts k e
+  unfolding isRow
+  row-falls h = rw (lt-leb k e h)
+
+  pub row-past : k ≤ e → length ts < e → false ≡ isRow n ts k e
+  unfolding isRow
+  row-past h l = rw (le-leb k e h, lt-leb e (length ts) l)
+
+  pub row-long : k ≤ e → e ≤ length ts → n < e - k → false ≡ isRow n ts k e
+  unfolding isRow
+  row-long h l m = rw (le-leb k e h, le-leb e (length ts) l, lt-leb (e - k) n m)
+
+  pub row-none : k ≤ e → e ≤ length ts → e - k ≤ n → e ≡ k → true ≡ isRow n ts k e
+  unfolding isRow
+  row-none h l m q = rw (le-leb k e h, le-leb e (length ts) l, le-leb (e - k) n m, eq-eqb e k q)
+
+  pub row-some : (a b : ℕ) → k ≤ e → e ≤ length ts → e - k ≤ n → (e ≡ k → ⊥) → a ≡ getD (0 ∷ ts) (e - 1) 0 → b ≡ getD (0 ∷ ts) e 0 → ltb a b ≡ isRow n ts k e
+  unfolding isRow present
+  row-some a b h l m q i j = rw (i, j, le-leb k e h, le-leb e (length ts) l, le-leb (e - k) n m, ne-eqb e k q)
+
+-- ---- characters
+and-swap : (a b c : Bool) → (a && (b && c)) ≡ (b && (a && c))
+and-swap true b c = refl
+and-swap false true c = refl
+and-swap false false c = refl
+
+eqb-add : (n a b : ℕ) → eqb (n + a) (n + b) ≡ eqb a b
+eqb-add n a b = on (eqb a b) refl
+  where
+    on : (t : Bool) → eqb a b ≡ t → eqb (n + a) (n + b) ≡ eqb a b
+    on true e = eq-eqb (n + a) (n + b) (omega (arith, eqb-true a b e)) ∙ sym e
+    on false e = let q = eqb-false a b e in ne-eqb (n + a) (n + b) (λ z. q (omega arith)) ∙ sym e
+
+-- how far a character reaches
+pub record Reach (s : List ℕ) (at v n : ℕ) : Type 0 where
+  pub some : 1 ≤ n
+  pub within : at + n ≤ length s
+  pub wide : n ≡ width v
+
+pub reach : (s : List ℕ) (at v n : ℕ) (d : Decoded) → d ≡ decodeAt s at → d ≡ Char v n → Reach s at v n
+unfolding decodeAt
+reach s at v n d p q =
+    let c = encode-decode (drop at s) v n (sym p ∙ q) in
+    let w = width-small v in
+    let l : n ≤ length (drop at s) = omega (arith, ap length (c .bytes), length-take n (drop at s), length-encode v, c .wide) in
+    record { some = omega (arith, c .wide); within = omega (arith, c .wide, length-drop at s); wide = c .wide }
+
+module _ (s : List ℕ) (at : ℕ) where
+  plain-char : (v n : ℕ) (d : Decoded) → d ≡ decodeAt s at → d ≡ Char v n → isPlain (drop at s) ≡ (not (eqb v 0) && isPlain (drop (at + n) s))
+  unfolding isPlain noNul wholes values
+  plain-char v n d p q =
+      let r = reach s at v n d p q in
+      let l : length (drop at s) ≡ n + length (drop (at + n) s) = omega (arith, length-drop at s, length-drop (at + n) s, r .within) in
+      rw (chars-char s at v n (sym p ∙ q), l, eqb-add)
+      (and-swap (eqb (validPrefix (drop (at + n) s)) (length (drop (at + n) s))) (not (eqb v 0)) (noNul (scalars (drop (at + n) s))))
+
+  -- bytes that start with no character
+  not-plain : at < length s → validPrefix (drop at s) ≡ 0 → isPlain (drop at s) ≡ false
+  unfolding isPlain
+  not-plain h e = rw (ne-eqb (validPrefix (drop at s)) (length (drop at s)) (omega (arith, length-drop at s)))
+
+  plain-bad : (d : Decoded) → at < length s → d ≡ decodeAt s at → d ≡ Bad → isPlain (drop at s) ≡ false
+  unfolding wholes
+  plain-bad d h p q = not-plain h (rw (chars-bad s at (sym p ∙ q)))
+
+  plain-end : (d : Decoded) → at < length s → d ≡ decodeAt s at → d ≡ End → isPlain (drop at s) ≡ false
+  unfolding wholes
+  plain-end d h p q = not-plain h (rw (chars-end s at (sym p ∙ q)))
+
+  plain-none : length s ≤ at → isPlain (drop at s) ≡ true
+  unfolding isPlain walk wholes values noNul
+  plain-none h = rw (drop-none at s h)
+
+-- a text of which `at` bytes are passed
+pub record Plainly (s : List ℕ) (at : ℕ) : Type 0 where
+  pub is : isPlain s ≡ isPlain (drop at s)
+
+module _ (s : List ℕ) (at : ℕ) (h : Plainly s at) where
+  pub plainly-go : (v n : ℕ) (d : Decoded) → d ≡ decodeAt s at → d ≡ Char v n → (v ≡ 0 → ⊥) → Plainly s (at + n)
+  plainly-go v n d p q o = record { is = h .is ∙ plain-char s at v n d p q ∙ rw (ne-eqb v 0 o) }
+
+  pub plainly-nul : (v n : ℕ) (d : Decoded) → d ≡ decodeAt s at → d ≡ Char v n → v ≡ 0 → false ≡ isPlain s
+  plainly-nul v n d p q o = sym (h .is ∙ plain-char s at v n d p q ∙ rw (eq-eqb v 0 o))
+
+  pub plainly-bad : (d : Decoded) → at < length s → d ≡ decodeAt s at → d ≡ Bad → false ≡ isPlain s
+  plainly-bad d l p q = sym (h .is ∙ plain-bad s at d l p q)
+
+  pub plainly-end : (d : Decoded) → at < length s → d ≡ decodeAt s at → d ≡ End → false ≡ isPlain s
+  plainly-end d l p q = sym (h .is ∙ plain-end s at d l p q)
+
+  pub plainly-done : length s ≤ at → true ≡ isPlain s
+  plainly-done l = sym (h .is ∙ plain-none s at l)
+
+-- ---- the text with its types and positions
+same-zeros : (k : ℕ) (xs ys : List ℕ) → k ≤ length ys → same (replicate k 0 ++ xs) ys ≡ (zeros (take k ys) && same xs (drop k ys))
+unfolding same zeros
+same-zeros zero xs ys h = refl
+same-zeros (suc k) xs [] h = absurd (omega arith)
+same-zeros (suc k) xs (zero ∷ ys) h = same-zeros k xs ys (omega arith)
+same-zeros (suc k) xs (suc y ∷ ys) h = rw (eqb·zero-suc y, eqb·suc-zero y)
+
+same-next : (x : ℕ) (xs l : List ℕ) (i : ℕ) → i < length l → same (x ∷ xs) (drop i l) ≡ (eqb x (getD l i 0) && same xs (drop (i + 1) l))
+unfolding same
+same-next x xs l i h = rw (drop-step i l h)
+
+same-end : (l : List ℕ) (i : ℕ) → i ≤ length l → same [] (drop i l) ≡ eqb i (length l)
+unfolding same
+same-end l i h = on (eqb i (length l)) refl
+  where
+    on : (t : Bool) → eqb i (length l) ≡ t → same [] (drop i l) ≡ eqb i (length l)
+    on true e = rw (drop-none i l (omega (arith, eqb-true i (length l) e))) (sym e)
+    on false e = let o = eqb-false i (length l) e in rw (drop-step i l (omega arith)) (sym e)
+
+same-last : (x : ℕ) (l : List ℕ) (i : ℕ) → i + 1 ≡ length l → same (x ∷ []) (drop i l) ≡ eqb x (getD l i 0)
+unfolding same
+same-last x l i h = same-next x [] l i (omega arith) ∙ rw (drop-none (i + 1) l (omega arith), and-true)
+
+-- what is left from character i on, which starts at byte `at`
+textFrom : List ℕ → List ℕ → List ℕ → List ℕ → ℕ → ℕ → Bool
+textFrom s ys ps qs at i =
+    isPlain (drop at s)
+    && same (types (scalars (drop at s))) (drop i ys)
+    && same (starts at (scalars (drop at s))) (drop i ps)
+    && same (numbers i (scalars (drop at s))) (drop at qs)
+
+pub record Reading (s ys ps qs : List ℕ) (at i : ℕ) : Type 0 where
+  is : isText s ys ps qs ≡ textFrom s ys ps qs at i
+  pub inside : at ≤ length s
+  pub counted : i ≤ length ys
+
+pub read-start : (s ys ps qs : List ℕ) → Reading s ys ps qs 0 0
+unfolding isText textFrom
+read-start s ys ps qs = record { is = refl; inside = omega arith; counted = omega arith }
+
+scalars-char : (s : List ℕ) (at v n : ℕ) (d : Decoded) → d ≡ decodeAt s at → d ≡ Char v n → scalars (drop at s) ≡ v ∷ scalars (drop (at + n) s)
+unfolding values
+scalars-char s at v n d p q = rw (chars-char s at v n (sym p ∙ q))
+
+module _ (s ys ps qs : List ℕ) (at i : ℕ) (f : Places s ys ps qs) (h : Reading s ys ps qs at i) where
+  module _ (v n : ℕ) (d : Decoded) (p : d ≡ decodeAt s at) (q : d ≡ Char v n) where
+    pub read-few : length ys ≤ i → false ≡ isText s ys ps qs
+    unfolding textFrom same
+    read-few l = sym (h .is ∙ rw (scalars-char s at v n d p q, drop-none i ys l, and-false))
+
+    pub read-fits : i < length ys → CharFits i at n ys ps qs
+    read-fits l =
+        let r = reach s at v n d p q in
+        record { some = r .some; types-fit = l; starts-fit = omega (arith, f .starts-long); numbers-fit = omega (arith, f .numbers-long, r .within) }
+
+    read-char : i < length ys → isText s ys ps qs ≡ (isChar v (typeOf v) i at n ys ps qs && textFrom s ys ps qs (at + n) (i + 1))
+    unfolding textFrom starts numbers isChar
+    read-char l =
+        let r = reach s at v n d p q in
+        let k : at + n - (at + 1) ≡ n - 1 = omega (arith, r .some) in
+        let m : at + 1 + (n - 1) ≡ at + n = omega (arith, r .some) in
+        h .is ∙ rw (
+          plain-char s at v n d p q,
+          scalars-char s at v n d p q,
+          k,
+          same-next (typeOf v) _ ys i l,
+          same-next at _ ps i (omega (arith, f .starts-long)),
+          same-next i _ qs at (omega (arith, f .numbers-long, r .within)),
+          ← (r .wide),
+          same-zeros (n - 1) _ (drop (at + 1) qs) (omega (arith, length-drop (at + 1) qs, f .numbers-long, r .within)),
+          drop-drop,
+          m,
+        ) (simp (and-assoc, and-swap))
+
+    module _ (t : ℕ) (ok : Bool) (l : i < length ys) (e : t ≡ typeOf v) (o : ok ≡ isChar v t i at n ys ps qs) where
+      tested : isText s ys ps qs ≡ (ok && textFrom s ys ps qs (at + n) (i + 1))
+      tested = read-char l ∙ rw (o, e)
+
+      pub read-no : not ok ≡ true → false ≡ isText s ys ps qs
+      read-no u = sym (tested ∙ rw (not-true ok u))
+
+      pub read-go : not ok ≡ false → Reading s ys ps qs (at + n) (i + 1)
+      read-go u = record { is = tested ∙ rw (not-false ok u); inside = reach s at v n d p q .within; counted = omega arith }
+
+  pub read-bad : (d : Decoded) → at < length s → d ≡ decodeAt s at → d ≡ Bad → false ≡ isText s ys ps qs
+  unfolding textFrom
+  read-bad d l p q = sym (h .is ∙ rw (plain-bad s at d l p q))
+
+  pub read-end : (d : Decoded) → at < length s → d ≡ decodeAt s at → d ≡ End → false ≡ isText s ys ps qs
+  unfolding textFrom
+  read-end d l p q = sym (h .is ∙ rw (plain-end s at d l p q))
+
+  last : (t : Bool) → eqb i (length ys) ≡ t → length s ≤ at → (t && same (at ∷ []) (drop i ps) && same (i ∷ []) (drop at qs)) ≡ (t && eqb at (getD ps i 0) && eqb i (getD qs at 0))
+  last true e l =
+      let m = eqb-true i (length ys) e in
+      rw (same-last at ps i (omega (arith, f .starts-long)), same-last i qs at (omega (arith, f .numbers-long, h .inside)))
+  last false e l = refl
+
+  pub read-done : length s ≤ at → (eqb i (length ys) && eqb at (getD ps i 0) && eqb i (getD qs at 0)) ≡ isText s ys ps qs
+  unfolding textFrom starts numbers walk values
+  read-done l = sym (h .is ∙ rw (plain-none s at l, drop-none at s l, same-end ys i (h .counted)) (last (eqb i (length ys)) refl l))

@@ -1,0 +1,201 @@
+// The passes of a sheet's check, each over parts of the buffers that are the whole of what a record counts.
+use types::blocks::Tables;
+use types::given::get_type;
+use utf8::Decoded;
+ghost use Prim.Native.Nat.{_≤_};
+ghost use mathlib.Core.Path.{_≡_};
+ghost use mathlib.Core.List.{_∷_};
+ghost use lib.ListN.{length, getD};
+ghost use Rattle.parts.specs.Parts.{zeros, isPlain, isChar, CharFits, isText, Places, areMarks, isTag, areTags, isRow, areRows};
+
+// Nothing but 0: the byte positions inside a character.
+fn all_zero(d: &[u16]) -> bool
+    ensures { λ ok. ⌜ ok ≡ zeros (now (d .entry)) ⌝ }
+{
+    let mut i = 0;
+    while i < d.len() {
+        if d[i] != 0 {
+            return false;
+        }
+        i += 1;
+    }
+    true
+}
+
+// A character with its type, its start, its number, and 0 at its inner bytes.
+fn is_char(
+    value: u32,
+    kind: u8,
+    i: usize,
+    at: usize,
+    len: usize,
+    types: &[u8],
+    char_pos: &[u16],
+    byte_pos: &[u16],
+) -> bool
+    requires { ⌜ CharFits i at len (now types) (now «char_pos») (now «byte_pos») ⌝ }
+    ensures { λ ok. ⌜ ok ≡ isChar value kind i at len (now (types .entry)) (now («char_pos» .entry)) (now («byte_pos» .entry)) ⌝ }
+{
+    !(value == 0)
+        & (kind == types[i])
+        & (at == char_pos[i] as usize)
+        & (i == byte_pos[at] as usize)
+        & all_zero(&byte_pos[at + 1..at + len])
+}
+
+// The text, its types and its positions, where there are as many positions as there should be.
+fn is_placed(text: &[u8], types: &[u8], char_pos: &[u16], byte_pos: &[u16]) -> bool
+    requires { ⌜ Places (now text) (now types) (now «char_pos») (now «byte_pos») ⌝ }
+    ensures { λ ok. ⌜ ok ≡ isText (now (text .entry)) (now (types .entry)) (now («char_pos» .entry)) (now («byte_pos» .entry)) ⌝ }
+{
+    let tables = Tables::new();
+    let mut at = 0;
+    let mut i = 0;
+    while at < text.len() {
+        match utf8::decode(text, at) {
+            Decoded::Char { value, len } => {
+                if i >= types.len() {
+                    return false;
+                }
+                let kind = get_type(&tables.index, &tables.blocks, value);
+                if !is_char(value, kind, i, at, len, types, char_pos, byte_pos) {
+                    return false;
+                }
+                at += len;
+                i += 1;
+            }
+            Decoded::Bad => {
+                return false;
+            }
+            Decoded::End => {
+                return false;
+            }
+        }
+    }
+    (i == types.len()) & (at == char_pos[i] as usize) & (i == byte_pos[at] as usize)
+}
+
+// The text, its types and its positions.
+pub fn is_text(text: &[u8], types: &[u8], char_pos: &[u16], byte_pos: &[u16]) -> bool
+    ensures { λ ok. ⌜ ok ≡ isText (now (text .entry)) (now (types .entry)) (now («char_pos» .entry)) (now («byte_pos» .entry)) ⌝ }
+{
+    if char_pos.len() != types.len() + 1 {
+        return false;
+    }
+    if byte_pos.len() != text.len() + 1 {
+        return false;
+    }
+    is_placed(text, types, char_pos, byte_pos)
+}
+
+// The boundaries.
+pub fn are_marks(marks: &[u8]) -> bool
+    ensures { λ ok. ⌜ ok ≡ areMarks (now (marks .entry)) ⌝ }
+{
+    let mut i = 0;
+    while i < marks.len() {
+        if marks[i] > 2 {
+            return false;
+        }
+        i += 1;
+    }
+    true
+}
+
+// UTF-8 without NUL.
+fn is_plain(s: &[u8]) -> bool
+    ensures { λ ok. ⌜ ok ≡ isPlain (now (s .entry)) ⌝ }
+{
+    let mut at = 0;
+    while at < s.len() {
+        match utf8::decode(s, at) {
+            Decoded::Char { value, len } => {
+                if value == 0 {
+                    return false;
+                }
+                at += len;
+            }
+            Decoded::Bad => {
+                return false;
+            }
+            Decoded::End => {
+                return false;
+            }
+        }
+    }
+    true
+}
+
+// The tag from one byte up to another.
+fn is_tag(bytes: &[u8], from: usize, to: usize) -> bool
+    ensures { λ ok. ⌜ ok ≡ isTag (now (bytes .entry)) from to ⌝ }
+{
+    if to < from {
+        return false;
+    }
+    if to > bytes.len() {
+        return false;
+    }
+    is_plain(&bytes[from..to])
+}
+
+// The tags, by where they end.
+pub fn are_tags(bytes: &[u8], ends: &[u16]) -> bool
+    ensures { λ ok. ⌜ ok ≡ areTags (now (bytes .entry)) 0 (now (ends .entry)) ⌝ }
+{
+    let mut from = 0;
+    let mut i = 0;
+    while i < ends.len() {
+        let to = ends[i] as usize;
+        if !is_tag(bytes, from, to) {
+            return false;
+        }
+        from = to;
+        i += 1;
+    }
+    from == bytes.len()
+}
+
+// Where the first `count` tags end.
+fn end_of(ends: &[u16], count: usize) -> u16
+    requires { ⌜ count ≤ length (now ends) ⌝ }
+    ensures { λ r. ⌜ r ≡ getD (0 ∷ now (ends .entry)) count 0 ⌝ }
+{
+    if count == 0 { 0 } else { ends[count - 1] }
+}
+
+// The row from one tag up to another.
+fn is_row(columns: usize, ends: &[u16], from: usize, to: usize) -> bool
+    ensures { λ ok. ⌜ ok ≡ isRow columns (now (ends .entry)) from to ⌝ }
+{
+    if to < from {
+        return false;
+    }
+    if to > ends.len() {
+        return false;
+    }
+    if to - from > columns {
+        return false;
+    }
+    if to == from {
+        return true;
+    }
+    end_of(ends, to - 1) < end_of(ends, to)
+}
+
+// The rows, by where they end.
+pub fn are_rows(columns: usize, tag_ends: &[u16], row_ends: &[u16]) -> bool
+    ensures { λ ok. ⌜ ok ≡ areRows columns (now («tag_ends» .entry)) 0 (now («row_ends» .entry)) ⌝ }
+{
+    let mut from = 0;
+    let mut i = 0;
+    while i < row_ends.len() {
+        let to = row_ends[i] as usize;
+        if !is_row(columns, tag_ends, from, to) {
+            return false;
+        }
+        from = to;
+        i += 1;
+    }
+    from == tag_ends.len()
+}

@@ -1,0 +1,4 @@
+-- `Tags` has what the loop over a row's tags goes by; `Lengths` says how long a token's line is; `Held` has the pieces of a sheet.
+pub mod Tags
+pub mod Lengths
+pub mod Held

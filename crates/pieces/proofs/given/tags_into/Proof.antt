@@ -1,0 +1,76 @@
+-- `pieces::given::tags_into` meets its contract. The invariant: the tags from j on are left to write, and the j-th starts at `from`. Assumes nothing.
+use Prim.Native.Nat.{_-_}
+use borrow.Author.Needs.{needs}
+use Rattle.sentence.specs.Writing.{writeTags}
+use Rattle.escape.specs.Escape.{formOf}
+use Rattle.pieces.specs.Pieces.{piecesAt}
+use Rattle.pieces.proofs.Tags.{Tagging, tag-part, tagging}
+use Rattle.pieces.proofs.given.tags_into.Statement.{statement}
+use Rattle.pieces.proofs.given.tags_into.Tie as tie
+
+abbrev Inv-loop : tie.InvT-loop
+Inv-loop in-partial tag-ends tag-bytes k end out₀ at from₀ j₀ n₀ out from j n =
+    let f = formOf in-partial in
+    Tagging f tag-ends tag-bytes end out₀ at (writeTags f (piecesAt tag-ends tag-bytes k (end - k))) out from j n
+
+abbrev μ-loop : tie.MeasureT-loop
+μ-loop in-partial tag-ends tag-bytes k end out₀ at from₀ j₀ n₀ out from j n = end - j
+
+edge-requires : tie.Need-edge-requires Inv-loop μ-loop
+edge-requires c κs = search (tagging, needs)
+
+loop-holds : tie.Need-loop-holds Inv-loop μ-loop
+loop-holds c = search (tagging, needs)
+
+mul-wide : tie.Need-mul-wide Inv-loop μ-loop
+mul-wide c = search (tagging, needs)
+
+shared-slice-read-wide : tie.Need-shared-slice-read-wide Inv-loop μ-loop
+shared-slice-read-wide c = search (tagging, needs)
+
+wide-requires : tie.Need-wide-requires Inv-loop μ-loop
+wide-requires c κs = search (tagging, needs)
+
+slice-write-out : tie.Need-slice-write-out Inv-loop μ-loop
+slice-write-out c = search (tagging, needs)
+
+add-copy-escaped : tie.Need-add-copy-escaped Inv-loop μ-loop
+add-copy-escaped c = search (tagging, needs)
+
+copy-escaped-requires : tie.Need-copy-escaped-requires Inv-loop μ-loop
+copy-escaped-requires c κs = tag-part (c .before .before .before .before .loop .inv) (c .before .before .before .before .before .before .before .before .before .pre .1) (c .before .before .before .loop-test .taken) (c .before .wide .ensures)
+
+add-j : tie.Need-add-j Inv-loop μ-loop
+add-j c = search (tagging, needs)
+
+loop-less : tie.Need-loop-less Inv-loop μ-loop
+loop-less c = search (tagging, needs)
+
+loop-again : tie.Need-loop-again Inv-loop μ-loop
+loop-again c = search (tagging, needs)
+
+same-length : tie.Need-same-length Inv-loop μ-loop
+same-length c = search (tagging, needs)
+
+returns : tie.Need-returns Inv-loop μ-loop
+returns c = search (tagging, needs)
+
+pub tags-into-spec : {M : Type 1} → statement M
+tags-into-spec =
+    tie.close
+    (tie.spec
+    Inv-loop
+    μ-loop
+    edge-requires
+    loop-holds
+    mul-wide
+    shared-slice-read-wide
+    wide-requires
+    slice-write-out
+    add-copy-escaped
+    copy-escaped-requires
+    add-j
+    loop-less
+    loop-again
+    same-length
+    returns)

@@ -1,0 +1,3 @@
+pub mod Enums
+pub mod Places
+pub mod Steps

@@ -1,0 +1,15 @@
+use Rattle.reader.specs.Flags.{actIn, stepped}
+use Rattle.reader.proofs.Steps.{far-back}
+use borrow.Author.Needs.{needs}
+use Rattle.reader.proofs.State.backslash.Statement.{statement}
+use Rattle.reader.proofs.State.backslash.Tie as tie
+
+escaped-requires : tie.Need-escaped-requires
+escaped-requires c κs = search needs
+
+returns : tie.Need-returns
+unfolding actIn stepped
+returns c = search far-back
+
+pub backslash-spec : {M : Type 1} → statement M
+backslash-spec = tie.close (tie.spec escaped-requires returns)

@@ -1,0 +1,23 @@
+use borrow.Author.Needs.{needs}
+use Rattle.reader.specs.Flags.{flagsAt, flags, actIn, stepped}
+use Rattle.sentence.specs.Reading.{opening, step}
+use Rattle.reader.proofs.Steps.{near-mark}
+use Rattle.reader.proofs.Places.{places}
+use Rattle.reader.proofs.Enums.{mark-back}
+use Rattle.reader.proofs.State.boundary.Statement.{statement}
+use Rattle.reader.proofs.State.boundary.Tie as tie
+
+returns : tie.Need-returns
+unfolding opening step stepped
+returns c = search places
+
+returns-2 : tie.Need-returns-2
+unfolding opening step stepped
+returns-2 c = search places
+
+returns-3 : tie.Need-returns-3
+unfolding flagsAt flags actIn stepped
+returns-3 c = search (places, near-mark, mark-back)
+
+pub boundary-spec : {M : Type 1} → statement M
+boundary-spec = tie.close (tie.spec returns returns-2 returns-3)

@@ -1,0 +1,23 @@
+use Rattle.reader.specs.Flags.{actIn, stepped}
+use Rattle.reader.proofs.Steps.{near-slash, far-slash}
+use Rattle.laws.proofs.Tests.{of-call}
+use borrow.Author.Needs.{needs}
+use Rattle.reader.proofs.State.slash.Statement.{statement}
+use Rattle.reader.proofs.State.slash.Tie as tie
+
+awaits-requires : tie.Need-awaits-requires
+awaits-requires c κs = search needs
+
+returns : tie.Need-returns
+unfolding actIn stepped
+returns c = search (near-slash, far-slash, of-call)
+
+in-tag-requires : tie.Need-in-tag-requires
+in-tag-requires c κs = search needs
+
+returns-2 : tie.Need-returns-2
+unfolding actIn stepped
+returns-2 c = search (near-slash, far-slash, of-call)
+
+pub slash-spec : {M : Type 1} → statement M
+slash-spec = tie.close (tie.spec awaits-requires returns in-tag-requires returns-2)

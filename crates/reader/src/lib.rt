@@ -1,0 +1,322 @@
+// The state of a reader, stepped by value over the characters of a line.
+ghost use mathlib.Core.Path.{_≡_};
+ghost use mathlib.Core.Bool.{true, false};
+ghost use Rattle.sentence.specs.Sentence.{code};
+ghost use Rattle.sentence.specs.Reading.{tokenized, partial, mark, slash, back, at, escaped, start, behind, inTag, go, letter, kind, ordinary, step, advance, unfinished, finish};
+ghost use Rattle.reader.specs.Flags.{formOf, markOf, placeOf, stateOf, flags, kindIn, stepped, ended, awaits, literal};
+
+pub enum Form {
+    Raw,
+    Tokenized,
+    Partial,
+}
+
+// A boundary between two characters.
+pub enum Mark {
+    None,
+    Word,
+    Unknown,
+}
+
+// What a character means where it is not escaped.
+pub enum Kind {
+    Mark(Mark),
+    Slash,
+    Back,
+    Plain,
+}
+
+// What a character does: nothing; it is text, with the boundary before it; it opens a tag; it is of the open tag.
+pub enum Act {
+    Skip,
+    Letter { mark: Mark, c: u32 },
+    Opens,
+    OfTag(u32),
+}
+
+// Where a reader stands: behind a backslash, in an open tag, behind a boundary (and which), and whether any text was read.
+pub struct State {
+    pub escape: bool,
+    pub tag_open: bool,
+    pub prev_space: bool,
+    pub begun: bool,
+    pub mark: Mark,
+}
+
+// What a step hands back.
+pub enum Stepped {
+    Go { state: State, act: Act },
+    Refuse(u8),
+}
+
+// What the line's end gives.
+pub enum Ended {
+    Whole,
+    Refuse(u8),
+}
+
+impl Mark {
+    // Its number: 0 none, 1 word, 2 unknown.
+    pub fn code(self) -> u8
+        ensures { λ r. ⌜ r ≡ code (markOf self) ⌝ }
+    {
+        match self {
+            Mark::None => 0,
+            Mark::Word => 1,
+            Mark::Unknown => 2,
+        }
+    }
+}
+
+fn tokenized_kind(c: u32) -> Kind
+    ensures { λ r. ⌜ r ≡ kindIn (kind tokenized c) ⌝ }
+{
+    if c == 32 {
+        return Kind::Mark(Mark::Word);
+    }
+    if c == 47 {
+        return Kind::Slash;
+    }
+    if c == 92 {
+        return Kind::Back;
+    }
+    Kind::Plain
+}
+
+fn partial_kind(c: u32) -> Kind
+    ensures { λ r. ⌜ r ≡ kindIn (kind partial c) ⌝ }
+{
+    if c == 32 {
+        return Kind::Mark(Mark::Unknown);
+    }
+    if c == 45 {
+        return Kind::Mark(Mark::None);
+    }
+    if c == 124 {
+        return Kind::Mark(Mark::Word);
+    }
+    if c == 47 {
+        return Kind::Slash;
+    }
+    if c == 92 {
+        return Kind::Back;
+    }
+    Kind::Plain
+}
+
+impl Form {
+    // What a character means in this form.
+    pub fn kind(self, c: u32) -> Kind
+        ensures { λ r. ⌜ r ≡ kindIn (kind (formOf self) c) ⌝ }
+    {
+        match self {
+            Form::Raw => Kind::Plain,
+            Form::Tokenized => tokenized_kind(c),
+            Form::Partial => partial_kind(c),
+        }
+    }
+
+    // The number of a line that ends behind a boundary.
+    fn unfinished(self) -> u8
+        ensures { λ r. ⌜ r ≡ unfinished (formOf self) ⌝ }
+    {
+        match self {
+            Form::Raw => 3,
+            Form::Tokenized => 8,
+            Form::Partial => 10,
+        }
+    }
+}
+
+impl State {
+    // Before any text.
+    pub fn new() -> Self
+        ensures { λ r. ⌜ r ≡ flags (at start) ⌝ }
+    {
+        State {
+            escape: false,
+            tag_open: false,
+            prev_space: false,
+            begun: false,
+            mark: Mark::None,
+        }
+    }
+
+    fn awaits(self) -> bool
+        ensures { λ r. ⌜ r ≡ awaits (placeOf self) ⌝ }
+    {
+        !self.begun | self.prev_space
+    }
+
+    // A character is awaited, and this form takes it literally.
+    fn is_literal(self, form: Form) -> bool
+        ensures { λ r. ⌜ r ≡ literal (formOf form) (placeOf self) ⌝ }
+    {
+        match form {
+            Form::Raw => self.awaits(),
+            Form::Tokenized => false,
+            Form::Partial => self.awaits(),
+        }
+    }
+
+    // A character of the text, with the boundary before it.
+    fn letter(m: Mark, c: u32) -> Stepped
+        ensures { λ r. ⌜ r ≡ stepped (go (at behind) (letter (markOf m) c)) ⌝ }
+    {
+        Stepped::Go {
+            state: State {
+                escape: false,
+                tag_open: false,
+                prev_space: false,
+                begun: true,
+                mark: Mark::None,
+            },
+            act: Act::Letter { mark: m, c },
+        }
+    }
+
+    // The place in an open tag.
+    fn in_tag(act: Act) -> Stepped
+        ensures { λ r. ⌜ r ≡ Stepped.Go (flags (at inTag)) act ⌝ }
+    {
+        Stepped::Go {
+            state: State {
+                escape: false,
+                tag_open: true,
+                prev_space: false,
+                begun: true,
+                mark: Mark::None,
+            },
+            act,
+        }
+    }
+
+    // An ordinary character behind another; the partial form has none.
+    fn behind(form: Form, c: u32) -> Stepped
+        ensures { λ r. ⌜ r ≡ stepped (ordinary (formOf form) behind c) ⌝ }
+    {
+        match form {
+            Form::Raw => State::letter(Mark::Unknown, c),
+            Form::Tokenized => State::letter(Mark::None, c),
+            Form::Partial => Stepped::Refuse(9),
+        }
+    }
+
+    // An ordinary character: of the open tag, else text.
+    fn ordinary(self, form: Form, c: u32) -> Stepped
+        ensures { λ r. ⌜ r ≡ stepped (ordinary (formOf form) (placeOf self) c) ⌝ }
+    {
+        let m = self.mark;
+        if !self.begun {
+            return State::letter(Mark::None, c);
+        }
+        if self.prev_space {
+            return State::letter(m, c);
+        }
+        if self.tag_open {
+            return State::in_tag(Act::OfTag(c));
+        }
+        State::behind(form, c)
+    }
+
+    // A plain boundary: none is right where a token begins.
+    fn boundary(self, m: Mark) -> Stepped
+        ensures { λ r. ⌜ r ≡ stepped (step tokenized (at (placeOf self)) (mark (markOf m)) 0) ⌝ }
+    {
+        if !self.begun {
+            return Stepped::Refuse(5);
+        }
+        if self.prev_space {
+            return Stepped::Refuse(6);
+        }
+        Stepped::Go {
+            state: State {
+                escape: false,
+                tag_open: false,
+                prev_space: true,
+                begun: true,
+                mark: m,
+            },
+            act: Act::Skip,
+        }
+    }
+
+    // A plain slash: none is right where a token begins.
+    fn slash(self) -> Stepped
+        ensures { λ r. ⌜ r ≡ stepped (step tokenized (at (placeOf self)) slash 0) ⌝ }
+    {
+        if self.awaits() {
+            return Stepped::Refuse(7);
+        }
+        State::in_tag(Act::Opens)
+    }
+
+    // The same place, behind a backslash.
+    fn escaped(self) -> State
+        ensures { λ r. ⌜ r ≡ flags (escaped (placeOf self)) ⌝ }
+    {
+        let m = self.mark;
+        let begun = self.begun;
+        let prev_space = begun & self.prev_space;
+        if prev_space {
+            return State {
+                escape: true,
+                tag_open: false,
+                prev_space,
+                begun,
+                mark: m,
+            };
+        }
+        State {
+            escape: true,
+            tag_open: begun & self.tag_open,
+            prev_space,
+            begun,
+            mark: Mark::None,
+        }
+    }
+
+    // A plain backslash: the next character is ordinary.
+    fn backslash(self) -> Stepped
+        ensures { λ r. ⌜ r ≡ stepped (step tokenized (at (placeOf self)) back 0) ⌝ }
+    {
+        Stepped::Go {
+            state: self.escaped(),
+            act: Act::Skip,
+        }
+    }
+
+    // One character.
+    pub fn step(self, form: Form, c: u32) -> Stepped
+        ensures { λ r. ⌜ r ≡ stepped (advance (formOf form) (stateOf self) c) ⌝ }
+    {
+        if c == 0 {
+            return Stepped::Refuse(4);
+        }
+        if self.escape {
+            return self.ordinary(form, c);
+        }
+        if self.is_literal(form) {
+            return self.ordinary(form, c);
+        }
+        match form.kind(c) {
+            Kind::Mark(m) => self.boundary(m),
+            Kind::Slash => self.slash(),
+            Kind::Back => self.backslash(),
+            Kind::Plain => self.ordinary(form, c),
+        }
+    }
+
+    // The line's end; a lone backslash is dropped.
+    pub fn end(self, form: Form) -> Ended
+        ensures { λ r. ⌜ r ≡ ended (finish (formOf form) (stateOf self)) ⌝ }
+    {
+        if !self.begun {
+            return Ended::Refuse(3);
+        }
+        if self.prev_space {
+            return Ended::Refuse(form.unfinished());
+        }
+        Ended::Whole
+    }
+}

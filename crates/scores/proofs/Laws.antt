@@ -1,0 +1,82 @@
+-- What the decision's proofs need. Assumes nothing.
+use Prim.Native.Nat.{ℕ, zero, suc, _+_, _-_, _^_, _≤_, _<_}
+use native.Mathlib.Omega.{arith}
+use mathlib.Core.Path.{_≡_, refl, sym, _∙_}
+use mathlib.Core.Bool.{true, false, false≢true}
+use mathlib.Core.List.{List, [], _∷_, _++_, map}
+use lib.IntN.{ℤ, pos, negsuc}
+use borrow.Author.Tests.{lt-ltb}
+use lib.ListN.{length, getD, drop, replicate, length-replicate, length-map, drop-of-length-le}
+use lib.Signed.{mag, ltZ}
+use mir.Syntax.{w32}
+use mir.Val.{SFits, hbits, ofZ, toZ}
+use mir.ValLaws.{toZ-ofZ}
+use Rattle.sheet.proofs.Look.{left, bounds}
+use Rattle.sheet.specs.declared.Record.{Record}
+use Rattle.sheet.specs.declared.Answer.the-variants as answer
+use Rattle.sheet.specs.Layout.{Buffers, buffers, recordOf, lay, laid, Holds}
+use Rattle.sentence.specs.Sentence.{code, Sentence, text, marks, rows}
+use Rattle.sentence.specs.Writing.{marked, resetTags, decision, scored}
+use Rattle.changes.specs.Changes.{Laid}
+use Rattle.changes.proofs.Changed.{text-bare, marks-bare, rows-bare, none-listed, no-tag-bytes, text-marked, marks-marked}
+use Rattle.changes.proofs.Kept.{text-kept, types-kept, char-pos-kept, byte-pos-kept, row-ends-reset, tag-ends-reset, tag-bytes-reset}
+
+-- a score above zero, and one that is not
+pub above : (z : ℤ) → SFits w32 z → ltZ (toZ w32 0) (toZ w32 (ofZ w32 z)) ≡ true → 1 ≡ code (decision z)
+unfolding code decision
+above z f h = on z (rw (toZ-ofZ w32 z f) at h)
+  where
+    on : (y : ℤ) → ltZ (pos 0) y ≡ true → 1 ≡ code (decision y)
+    on (pos zero) e = absurd (false≢true e)
+    on (pos (suc n)) e = refl
+    on (negsuc n) e = absurd (false≢true e)
+
+pub not-above : (z : ℤ) → SFits w32 z → ltZ (toZ w32 0) (toZ w32 (ofZ w32 z)) ≡ false → 0 ≡ code (decision z)
+unfolding code decision
+not-above z f h = on z (rw (toZ-ofZ w32 z f) at h)
+  where
+    on : (y : ℤ) → ltZ (pos 0) y ≡ false → 0 ≡ code (decision y)
+    on (pos zero) e = refl
+    on (pos (suc n)) e = absurd (false≢true (sym e ∙ lt-ltb 0 (suc n) (omega arith)))
+    on (negsuc n) e = refl
+
+-- ---- the decisions that are left to store
+pub decide-step : (zs : List ℤ) (i v : ℕ) → i < length zs → mag (getD zs i (pos 0)) < 2 ^ hbits w32 → v ≡ code (decision (toZ w32 (ofZ w32 (getD zs i (pos 0)))))
+    → map code (map decision (drop i zs)) ≡ v ∷ map code (map decision (drop (i + 1) zs))
+decide-step zs i v h k e = rw (left (pos 0) zs i h, e, toZ-ofZ w32 (getD zs i (pos 0)) (record { sfits = k }))
+
+pub decide-none : (zs : List ℤ) (i : ℕ) → length zs ≤ i → map code (map decision (drop i zs)) ≡ []
+decide-none zs i h = rw (drop-of-length-le zs h)
+
+pub decide-long : (zs : List ℤ) → length (map code (map decision zs)) ≡ length zs
+decide-long zs = simp length-map
+
+pub ruleset decides = (decide-none, decide-long)
+
+-- ---- what the call leaves
+module _ {r : Record} {d : Buffers} {s : Sentence} (h : Holds r d s) where
+  pub scores-lay : (zs : List ℤ) (marked-as ends : List ℕ) → length zs ≡ r .n - 1
+      → marked-as ≡ map code (map decision zs) ++ drop (length zs) (d .boundaries-buf)
+      → ends ≡ replicate (r .n) 0 ++ drop (r .n) (d .row-ends-buf)
+      → Laid (scored zs s) d (answer.Sentence (record { n = r .n; b = r .b; columns = 0; k = 0; g = 0 }))
+      (buffers (d .text-buf) (d .types-buf) marked-as (d .char-pos-buf) (d .byte-pos-buf) ends (d .tag-ends-buf) (d .tag-bytes-buf))
+  unfolding recordOf lay laid scored resetTags
+  scores-lay zs marked-as ends l e f =
+      let t = scored zs s in
+      let c = marked (map decision zs) (s .cells) in
+      let x : text t ≡ text s = text-bare c ∙ text-marked (map decision zs) (s .cells) in
+      let n = bounds h .n-is in
+      let b = bounds h .b-is in
+      let y : rows t ≡ replicate (r .n) [] = rows-bare c ∙ rw (text-marked (map decision zs) (s .cells), n) in
+      let m : marks t ≡ map decision zs = marks-bare c ∙ marks-marked (map decision zs) (s .cells) (length-map zs decision ∙ l ∙ sym (bounds h .marks-long)) in
+      record {
+        answer-is = rw (x, y, none-listed, no-tag-bytes, ← n, ← b);
+        text-is = sym (text-kept h t x);
+        types-is = sym (types-kept h t x);
+        boundaries-is = e ∙ rw (m, length-map (map decision zs) code, length-map zs decision);
+        char-pos-is = sym (char-pos-kept h t x);
+        byte-pos-is = sym (byte-pos-kept h t x);
+        row-ends-is = f ∙ sym (row-ends-reset h t y ∙ rw length-replicate);
+        tag-ends-is = sym (tag-ends-reset h t y);
+        tag-bytes-is = sym (tag-bytes-reset h t y);
+      }

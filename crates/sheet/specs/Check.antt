@@ -1,0 +1,36 @@
+-- Whether a record and buffers are a sheet: the limits, the room, then a test for each pass over what the record counts of the buffers.
+use Prim.Native.Nat.{_+_, _-_, _≤_}
+use mathlib.Core.Bool.{Bool, _&&_}
+use lib.Dec.{leb}
+use lib.ListN.{length, take}
+use Rattle.parts.specs.Parts.{isText, areMarks, areTags, areRows}
+use Rattle.sheet.specs.declared.Record.{Record}
+use Rattle.sheet.specs.Layout.{Buffers, roomFor}
+
+-- N is at least 1, B and columns at most 4,096, K and G at most 65,535
+unfoldable pub inLimits : Record → Bool
+inLimits r = leb 1 (r .n) && leb (r .b) 4096 && leb (r .columns) 4096 && leb (r .k) 65535 && leb (r .g) 65535
+
+-- what the record counts of the buffers is laid out as a sentence is
+unfoldable pub isLaid : Record → Buffers → Bool
+isLaid r d =
+    isText (take (r .b) (d .text-buf)) (take (r .n) (d .types-buf)) (take (r .n + 1) (d .char-pos-buf)) (take (r .b + 1) (d .byte-pos-buf))
+    && areMarks (take (r .n - 1) (d .boundaries-buf))
+    && areTags (take (r .g) (d .tag-bytes-buf)) 0 (take (r .k) (d .tag-ends-buf))
+    && areRows (r .columns) (take (r .k) (d .tag-ends-buf)) 0 (take (r .n) (d .row-ends-buf))
+
+-- N is at least 1, and there is room for what the record counts
+pub record Room (r : Record) (d : Buffers) : Type 0 where
+  pub some : 1 ≤ r .n
+  pub text-room : r .b ≤ length (d .text-buf)
+  pub types-room : r .n ≤ length (d .types-buf)
+  pub boundaries-room : r .n - 1 ≤ length (d .boundaries-buf)
+  pub char-pos-room : r .n + 1 ≤ length (d .char-pos-buf)
+  pub byte-pos-room : r .b + 1 ≤ length (d .byte-pos-buf)
+  pub row-ends-room : r .n ≤ length (d .row-ends-buf)
+  pub tag-ends-room : r .k ≤ length (d .tag-ends-buf)
+  pub tag-bytes-room : r .g ≤ length (d .tag-bytes-buf)
+
+-- the record and the buffers are a sheet
+unfoldable pub isSheet : Record → Buffers → Bool
+isSheet r d = inLimits r && roomFor r d && isLaid r d

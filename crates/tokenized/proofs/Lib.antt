@@ -1,0 +1,2 @@
+-- `Turns` has what the loops over the tokens go by.
+pub mod Turns

@@ -1,0 +1,128 @@
+// Internal: each function assumes a checked sheet, and the writer room for the line.
+use pieces::given::token_into;
+use pieces::given::token_len;
+use pieces::given::wide;
+use sheet::Record;
+use tokens::Step;
+use tokens::given::next_token;
+ghost use Prim.Native.Nat.{_+_, _≤_};
+ghost use mathlib.Core.Path.{_≡_};
+ghost use lib.ListN.{length};
+ghost use Rattle.sentence.specs.Reading.{tokenized};
+ghost use Rattle.sentence.specs.Writing.{written};
+ghost use Rattle.sheet.specs.Layout.{buffers, spell, Sheet};
+ghost use Rattle.escape.specs.Wrote.{Wrote, Lined};
+ghost use Rattle.tokenized.specs.Gaps.{gap};
+
+// How many bytes stand before a token.
+fn gap_len(some: bool) -> usize
+    ensures { λ r. ⌜ r ≡ length (gap some) ⌝ }
+{
+    if some {
+        return 1;
+    }
+    0
+}
+
+// A space before a token that is not the first.
+fn gap_into(some: bool, out: &mut [u8], at: usize) -> usize
+    requires { ⌜ at + length (gap some) ≤ length (now out) ⌝ }
+    ensures { λ r. ⌜ Wrote (now (out .entry)) at (gap some) (now (out .exit)) r ⌝ }
+{
+    if some {
+        out[at] = 32;
+        return at + 1;
+    }
+    at
+}
+
+// How long the line is.
+pub fn tokenized_len(
+    r: Record,
+    text: &[u8],
+    types: &[u8],
+    boundaries: &[u8],
+    char_pos: &[u16],
+    byte_pos: &[u16],
+    row_ends: &[u16],
+    tag_ends: &[u16],
+    tag_bytes: &[u8],
+) -> usize
+    requires { ⌜ Sheet r (buffers (now text) (now types) (now boundaries) (now «char_pos») (now «byte_pos») (now «row_ends») (now «tag_ends») (now «tag_bytes»)) ⌝ }
+    ensures { λ a. ⌜ a ≡ length (written tokenized (spell r (buffers (now (text .entry)) (now (types .entry)) (now (boundaries .entry)) (now («char_pos» .entry)) (now («byte_pos» .entry)) (now («row_ends» .entry)) (now («tag_ends» .entry)) (now («tag_bytes» .entry))))) ⌝ }
+{
+    let mut sum = 0;
+    let mut p = 0;
+    let mut some = false;
+    loop {
+        match next_token(boundaries, r.n, p) {
+            Step::Serves(t) => {
+                let b = wide(t.start);
+                let e = wide(t.end);
+                sum += gap_len(some);
+                sum += token_len(
+                    text,
+                    char_pos,
+                    row_ends,
+                    tag_ends,
+                    tag_bytes,
+                    b,
+                    e,
+                    r.columns,
+                );
+                some = true;
+                p = e;
+            }
+            Step::Done { at: _ } => {
+                return sum;
+            }
+        }
+    }
+}
+
+// The line, at the front of the output.
+pub fn tokenized_into(
+    r: Record,
+    text: &[u8],
+    types: &[u8],
+    boundaries: &[u8],
+    char_pos: &[u16],
+    byte_pos: &[u16],
+    row_ends: &[u16],
+    tag_ends: &[u16],
+    tag_bytes: &[u8],
+    out: &mut [u8],
+) -> usize
+    requires { ⌜ Sheet r (buffers (now text) (now types) (now boundaries) (now «char_pos») (now «byte_pos») (now «row_ends») (now «tag_ends») (now «tag_bytes»)) × (length (written tokenized (spell r (buffers (now text) (now types) (now boundaries) (now «char_pos») (now «byte_pos») (now «row_ends») (now «tag_ends») (now «tag_bytes»)))) ≤ length (now out)) ⌝ }
+    ensures { λ a. ⌜ Lined (written tokenized (spell r (buffers (now (text .entry)) (now (types .entry)) (now (boundaries .entry)) (now («char_pos» .entry)) (now («byte_pos» .entry)) (now («row_ends» .entry)) (now («tag_ends» .entry)) (now («tag_bytes» .entry))))) (now (out .entry)) (now (out .exit)) a ⌝ }
+{
+    let mut n = 0;
+    let mut p = 0;
+    let mut some = false;
+    loop {
+        match next_token(boundaries, r.n, p) {
+            Step::Serves(t) => {
+                let b = wide(t.start);
+                let e = wide(t.end);
+                n = gap_into(some, out, n);
+                n = token_into(
+                    text,
+                    char_pos,
+                    row_ends,
+                    tag_ends,
+                    tag_bytes,
+                    b,
+                    e,
+                    r.columns,
+                    out,
+                    n,
+                );
+                some = true;
+                p = e;
+            }
+            Step::Done { at: _ } => {
+                return n;
+            }
+        }
+    }
+}

@@ -1,0 +1,5 @@
+pub mod Cursor
+pub mod Held
+pub mod Answers
+pub mod Lists
+pub mod Once

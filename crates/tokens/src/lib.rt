@@ -1,0 +1,152 @@
+// Tokens: a cursor that each step hands back, and the list of all tokens of a sentence.
+pub mod given; // given.rt: for a sheet that was checked
+
+use sentence::Refusal;
+use sheet::Number;
+use sheet::Record;
+ghost use mathlib.Core.Path.{_≡_};
+ghost use lib.ListN.{length};
+ghost use Rattle.sheet.specs.Layout.{buffers};
+ghost use Rattle.tokens.specs.Steps.{nextOf, countOf, filledOf, Listed};
+
+// A token: the number of its first character, and of the one after its last.
+pub struct Token {
+    pub start: u16,
+    pub end: u16,
+}
+
+// What a step of the cursor answers: a token, whose end is the next cursor, or that it is done and where.
+pub enum Step {
+    Serves(Token),
+    Done { at: usize },
+}
+
+// What a step on a sheet answers.
+pub enum Next {
+    Is(Step),
+    Refused(Refusal),
+}
+
+// The step of the cursor at `p`.
+pub fn next_token(
+    r: Record,
+    text: &[u8],
+    types: &[u8],
+    boundaries: &[u8],
+    char_pos: &[u16],
+    byte_pos: &[u16],
+    row_ends: &[u16],
+    tag_ends: &[u16],
+    tag_bytes: &[u8],
+    p: usize,
+) -> Next
+    ensures { λ a. ⌜ a ≡ nextOf r (buffers (now (text .entry)) (now (types .entry)) (now (boundaries .entry)) (now («char_pos» .entry)) (now («byte_pos» .entry)) (now («row_ends» .entry)) (now («tag_ends» .entry)) (now («tag_bytes» .entry))) p ⌝ }
+{
+    if !sheet::check(
+        r,
+        text,
+        types,
+        boundaries,
+        char_pos,
+        byte_pos,
+        row_ends,
+        tag_ends,
+        tag_bytes,
+    ) {
+        return Next::Refused(Refusal {
+            number: 13,
+            place: 0,
+        });
+    }
+    Next::Is(given::next_token(boundaries, r.n, p))
+}
+
+// How many records a list of all tokens takes, or what refuses a list with `room` for so many.
+fn needed(
+    r: Record,
+    text: &[u8],
+    types: &[u8],
+    boundaries: &[u8],
+    char_pos: &[u16],
+    byte_pos: &[u16],
+    row_ends: &[u16],
+    tag_ends: &[u16],
+    tag_bytes: &[u8],
+    room: usize,
+) -> Number
+    ensures { λ a. ⌜ a ≡ countOf r (buffers (now (text .entry)) (now (types .entry)) (now (boundaries .entry)) (now («char_pos» .entry)) (now («byte_pos» .entry)) (now («row_ends» .entry)) (now («tag_ends» .entry)) (now («tag_bytes» .entry))) room ⌝ }
+{
+    if !sheet::check(
+        r,
+        text,
+        types,
+        boundaries,
+        char_pos,
+        byte_pos,
+        row_ends,
+        tag_ends,
+        tag_bytes,
+    ) {
+        return Number::Refused(Refusal {
+            number: 13,
+            place: 0,
+        });
+    }
+    let count = given::count_tokens(boundaries, r.n);
+    if room < count {
+        return Number::Refused(Refusal {
+            number: 12,
+            place: count,
+        });
+    }
+    Number::Is(count)
+}
+
+// How many records are filled where this is answered: none where the list is refused.
+fn filled(answer: Number) -> usize
+    ensures { λ k. ⌜ k ≡ filledOf answer ⌝ }
+{
+    match answer {
+        Number::Is(count) => count,
+        Number::Refused(_) => 0,
+    }
+}
+
+// Fills a lent list with all tokens from position 0, in their order; answers how many.
+pub fn token_list(
+    r: Record,
+    text: &[u8],
+    types: &[u8],
+    boundaries: &[u8],
+    char_pos: &[u16],
+    byte_pos: &[u16],
+    row_ends: &[u16],
+    tag_ends: &[u16],
+    tag_bytes: &[u8],
+    list: &mut [Token],
+) -> Number
+    ensures { λ a. ⌜ Listed r (buffers (now (text .entry)) (now (types .entry)) (now (boundaries .entry)) (now («char_pos» .entry)) (now («byte_pos» .entry)) (now («row_ends» .entry)) (now («tag_ends» .entry)) (now («tag_bytes» .entry))) (now (list .entry)) a (now (list .exit)) ⌝ }
+{
+    let answer = needed(
+        r,
+        text,
+        types,
+        boundaries,
+        char_pos,
+        byte_pos,
+        row_ends,
+        tag_ends,
+        tag_bytes,
+        list.len(),
+    );
+    let count = filled(answer);
+    let mut p: u16 = 0;
+    let mut i: usize = 0;
+    while i < count {
+        let t = given::token_from(boundaries, r.n, p);
+        list[i] = t;
+        p = t.end;
+        i += 1;
+    }
+    answer
+}

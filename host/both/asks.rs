@@ -1,0 +1,300 @@
+//! Each of the port's calls, asked with what it should answer at hand. Lent memory that is to be left alone is looked at too.
+
+use crate::original;
+use crate::parts::{Answer, Buffers, Form, Record, Refusal, AMPLE, LONGEST};
+use crate::port;
+use crate::rules;
+use oracle::draw::Draw;
+use std::fmt::Debug;
+
+/// What a call on the port said that it should not have said.
+pub type Fault = Result<(), String>;
+
+/// What every lent byte holds before it is written.
+const UNTOUCHED: u8 = 0xa5;
+
+/// How many cells are looked at past those that are to be written.
+const MARGIN: usize = 8;
+
+/// The longest output that the conversion takes.
+const LONGEST_OUTPUT: usize = 1 << 20;
+
+/// The memory that is lent, and chance for the rest.
+pub struct Asks {
+    draw: Draw,
+    buffers: Buffers,
+    out: Vec<u8>,
+}
+
+impl Asks {
+    pub fn new(seed: u64) -> Self {
+        Self {
+            draw: Draw::new(seed),
+            buffers: Buffers::filled(AMPLE.map(|length| length + 2 * MARGIN), UNTOUCHED),
+            out: vec![UNTOUCHED; LONGEST + 2 * MARGIN],
+        }
+    }
+
+    /// Every call on a line that should be answered so.
+    pub fn line(&mut self, form: Form, line: &[u8], expected: &Result<Answer, Refusal>) -> Fault {
+        self.convert(form, line, expected)?;
+        if self.draw.below(16) == 0 {
+            self.out_of_range(form, line)?;
+        }
+        let answer = match expected {
+            Err(refusal) => return self.refused(form, line, *refusal),
+            Ok(answer) => answer,
+        };
+        if self.draw.below(8) == 0 {
+            self.short_room(form, line, answer)?;
+        }
+        let asked = self.read(form, line, answer).and_then(|lengths| self.sheet(form, line, answer, lengths));
+        self.wipe(answer);
+        asked
+    }
+
+    /// A line that is read: the numbers, every buffer, and the cells behind. Answers the lengths that were lent.
+    fn read(&mut self, form: Form, line: &[u8], answer: &Answer) -> Result<[usize; 8], String> {
+        let lengths = answer.buffers.lengths().map(|needed| needed + self.draw.below(MARGIN));
+        let mut numbers = [7; 7];
+        let count = 5 + self.draw.below(3);
+        let given = port::read(form as u32, line, &mut self.buffers.lend(lengths), &mut numbers[..count]);
+        same("the answer", &given, &Ok(0))?;
+        let [n, b, columns, k, g] = answer.record.map(|number| number as u64);
+        same("the numbers", &numbers, &[n, b, columns, k, g, 7, 7])?;
+        let (held, wanted) = (&self.buffers, &answer.buffers);
+        holds("text", &held.text, &wanted.text)?;
+        holds("types", &held.types, &wanted.types)?;
+        holds("boundaries", &held.boundaries, &wanted.boundaries)?;
+        holds("char positions", &held.char_pos, &wanted.char_pos)?;
+        holds("byte positions", &held.byte_pos, &wanted.byte_pos)?;
+        holds("row ends", &held.row_ends, &wanted.row_ends)?;
+        holds("tag ends", &held.tag_ends, &wanted.tag_ends)?;
+        holds("tag bytes", &held.tag_bytes, &wanted.tag_bytes)?;
+        Ok(lengths)
+    }
+
+    /// A line that is refused, whatever the room: nothing is written.
+    fn refused(&mut self, form: Form, line: &[u8], refusal: Refusal) -> Fault {
+        let lengths = [0; 8].map(|_: usize| self.draw.below(MARGIN));
+        self.refused_with(form as u32, line, lengths, 5, refusal)
+    }
+
+    fn refused_with(&mut self, form: u32, line: &[u8], lengths: [usize; 8], count: usize, refusal: Refusal) -> Fault {
+        let mut numbers = [7; 5];
+        let given = port::read(form, line, &mut self.buffers.lend(lengths), &mut numbers[..count]);
+        same("the answer", &given, &Err(refusal))?;
+        same("the numbers of a refused call", &numbers, &[7; 5])?;
+        let front = lengths.map(|length| length + MARGIN);
+        if self.buffers.lend(front).all_are(UNTOUCHED) {
+            return Ok(());
+        }
+        self.buffers = Buffers::filled(AMPLE.map(|length| length + 2 * MARGIN), UNTOUCHED);
+        Err("a refused call has written".into())
+    }
+
+    /// One of the buffers a cell too short: 11.
+    fn short_room(&mut self, form: Form, line: &[u8], answer: &Answer) -> Fault {
+        let mut lengths = answer.buffers.lengths();
+        let which = self.draw.below(8);
+        if lengths[which] == 0 {
+            return Ok(());
+        }
+        lengths[which] -= 1;
+        self.refused_with(form as u32, line, lengths, 5, Refusal { number: 11, place: 0 })
+    }
+
+    /// Numbers out of range: an unknown form is 16 before all else; too few numbers, or a place past the output, are 14 before the line.
+    fn out_of_range(&mut self, form: Form, line: &[u8]) -> Fault {
+        let (unknown, outside) = (Refusal { number: 16, place: 0 }, Refusal { number: 14, place: 0 });
+        let lengths = [0; 8].map(|_: usize| self.draw.below(MARGIN));
+        let (strange, few) = (3 + self.draw.below(1 << 30) as u32, self.draw.below(5));
+        self.refused_with(strange, line, lengths, few, unknown)?;
+        self.refused_with(form as u32, line, lengths, few, outside)?;
+        let (room, past) = (self.draw.below(MARGIN), 1 + self.draw.below(9));
+        for (reader, writer) in [(strange, 1), (form as u32, 0), (form as u32, strange)] {
+            same("the conversion", &port::convert(reader, writer, line, &mut self.out[..room], room + past), &Err(unknown))?;
+        }
+        same("the conversion", &port::convert(form as u32, 2, line, &mut self.out[..room], room + past), &Err(outside))?;
+        same("the conversion", &port::convert(form as u32, 1, line, &mut self.out[..LONGEST_OUTPUT + 1], room), &Err(outside))?;
+        self.out_is(&[], "the output of a refused conversion")
+    }
+
+    /// A line converted to each written form behind some bytes, with room enough and, now and then, with a byte too little.
+    fn convert(&mut self, form: Form, line: &[u8], expected: &Result<Answer, Refusal>) -> Fault {
+        for writer in [Form::Tokenized, Form::Partial] {
+            let at = self.draw.below(5);
+            let written = expected.as_ref().map_or(&[][..], |answer| answer.written(writer));
+            let short = self.draw.below(8) == 0;
+            let room = if short { (at + written.len()).saturating_sub(1).max(at) } else { at + written.len() + self.draw.below(4) };
+            let room = room.min(LONGEST_OUTPUT);
+            let lacks = at + written.len() > room;
+            let wanted = match expected {
+                Err(refusal) => Err(*refusal),
+                Ok(_) if lacks => Err(Refusal { number: 12, place: written.len() as u64 }),
+                Ok(_) => Ok((at + written.len()) as u64),
+            };
+            let given = port::convert(form as u32, writer as u32, line, &mut self.out[..room], at);
+            same(&format!("the conversion to {}", writer.letter()), &given, &wanted)?;
+            let whole = if lacks { vec![] } else { [&[UNTOUCHED; 5][..at], written].concat() };
+            self.out_is(&whole, "the converted line")?;
+        }
+        Ok(())
+    }
+
+    /// The calls on the sheet that was read.
+    fn sheet(&mut self, form: Form, line: &[u8], answer: &Answer, lengths: [usize; 8]) -> Fault {
+        for writer in [Form::Tokenized, Form::Partial] {
+            self.write(writer, answer, lengths)?;
+        }
+        self.tokens(answer, lengths)?;
+        match self.draw.below(8) {
+            0 => self.steps(form, line, answer, lengths),
+            1 => self.unknown_form(answer, lengths),
+            2 | 3 => self.changed(answer),
+            _ => Ok(()),
+        }
+    }
+
+    /// The sentence written, with room enough and, now and then, with a byte too little.
+    fn write(&mut self, writer: Form, answer: &Answer, lengths: [usize; 8]) -> Fault {
+        let written = answer.written(writer);
+        let short = !written.is_empty() && self.draw.below(8) == 0;
+        let room = if short { written.len() - 1 } else { written.len() + self.draw.below(4) };
+        let given = port::write(writer as u32, answer.record, &self.buffers.lend(lengths), &mut self.out[..room]);
+        let needed = written.len() as u64;
+        same(&format!("the writer of {}", writer.letter()), &given, &if short { Err(Refusal { number: 12, place: needed }) } else { Ok(needed) })?;
+        self.out_is(if short { &[] } else { written }, "the written line")
+    }
+
+    /// All tokens, one after another; a long line's are left to `steps`.
+    fn tokens(&mut self, answer: &Answer, lengths: [usize; 8]) -> Fault {
+        let n = answer.record[0];
+        if n > 200 {
+            return Ok(());
+        }
+        let lent = self.buffers.lend(lengths);
+        let mut span = [0, 0, 7];
+        for token in answer.tokens.iter().flatten() {
+            same("a step", &port::next_token(answer.record, &lent, span[1] as usize, &mut span), &Ok(1))?;
+            same("a token", &span, &[token[0], token[1], 7])?;
+        }
+        let last = span;
+        same("the last step", &port::next_token(answer.record, &lent, span[1] as usize, &mut span), &Ok(0))?;
+        same("the last cursor", &span, &[n as u64, last[1], 7])
+    }
+
+    /// Steps of the cursor from places of any kind.
+    fn steps(&mut self, form: Form, line: &[u8], answer: &Answer, lengths: [usize; 8]) -> Fault {
+        let sentence = original::read(form, std::str::from_utf8(line).unwrap())?;
+        for _ in 0..3 {
+            let place = self.draw.below(answer.record[0] + 3);
+            let mut span = [7; 2];
+            let given = port::next_token(answer.record, &self.buffers.lend(lengths), place, &mut span);
+            match original::next_token(&sentence, place) {
+                (Some(token), _) => same("a step and its token", &(given, span), &(Ok(1), token))?,
+                (None, cursor) => same("a step and its cursor", &(given, span), &(Ok(0), [cursor, 7]))?,
+            }
+        }
+        Ok(())
+    }
+
+    /// An unknown form of a writer, and a span that is too short.
+    fn unknown_form(&mut self, answer: &Answer, lengths: [usize; 8]) -> Fault {
+        let form = self.draw.one(&[0, 3, 4, u32::MAX]);
+        let lent = self.buffers.lend(lengths);
+        same("an unknown writer", &port::write(form, answer.record, &lent, &mut []), &Err(Refusal { number: 16, place: 0 }))?;
+        let mut span = [7];
+        let given = port::next_token(answer.record, &lent, 0, &mut span);
+        same("a short span", &(given, span), &(Err(Refusal { number: 14, place: 0 }), [7]))
+    }
+
+    /// One number of the sheet changed: 13 exactly where it is a sentence no more.
+    fn changed(&mut self, answer: &Answer) -> Fault {
+        let (record, mut buffers, lengths) = self.altered(answer);
+        let lent = buffers.lend(lengths);
+        let broken = Err(Refusal { number: 13, place: 0 });
+        let mut span = [7; 2];
+        let written = port::write(1, record, &lent, &mut self.out);
+        let stepped = port::next_token(record, &lent, 0, &mut span);
+        if rules::is_sheet(record, &lent) {
+            self.out[..written.map_or(0, |length| length as usize)].fill(UNTOUCHED);
+            return same("a changed sheet that is one", &(written == broken, stepped == broken), &(false, false));
+        }
+        same("a changed sheet that is none", &(written, stepped, span), &(broken, broken, [7; 2]))?;
+        self.out_is(&[], "the output of a refused writer")
+    }
+
+    /// A sheet with one number of its record, one of its cells or one of its lengths changed.
+    fn altered(&mut self, answer: &Answer) -> (Record, Buffers, [usize; 8]) {
+        let (mut record, mut buffers, mut lengths) = (answer.record, answer.buffers.clone(), answer.buffers.lengths());
+        let which = self.draw.below(8);
+        match self.draw.below(4) {
+            0 => record[which % 5] = record[which % 5].wrapping_add_signed(self.draw.one(&[1, -1, 5000, isize::MAX])),
+            1 => lengths[which] = lengths[which].saturating_sub(1),
+            _ => self.alter_cell(&mut buffers, which),
+        }
+        (record, buffers, lengths)
+    }
+
+    /// Changes a cell of one of the buffers.
+    fn alter_cell(&mut self, buffers: &mut Buffers, which: usize) {
+        let at = self.draw.below(buffers.lengths()[which].max(1));
+        let bytes = [&mut buffers.text, &mut buffers.types, &mut buffers.boundaries, &mut buffers.tag_bytes];
+        let ends = [&mut buffers.char_pos, &mut buffers.byte_pos, &mut buffers.row_ends, &mut buffers.tag_ends];
+        let cells = |buffer: usize| if buffer < 3 { buffer } else { 3 };
+        match which {
+            0..3 | 7 => {
+                let amount = self.draw.one(&[1, 2, 3, 0x80, 254, 255]);
+                bytes.into_iter().nth(cells(which)).unwrap().iter_mut().skip(at).take(1).for_each(|byte| *byte = byte.wrapping_add(amount));
+            }
+            _ => {
+                let amount = self.draw.one(&[1, -1, 2, 256]);
+                ends.into_iter().nth(which - 3).unwrap().iter_mut().skip(at).take(1).for_each(|end| *end = end.wrapping_add_signed(amount));
+            }
+        }
+    }
+
+    /// The output starts with a line, and is left alone behind it; then it is made anew.
+    fn out_is(&mut self, line: &[u8], what: &str) -> Fault {
+        let right = holds(what, &self.out, line);
+        self.out[..line.len()].fill(UNTOUCHED);
+        if right.is_err() {
+            self.out.fill(UNTOUCHED);
+        }
+        right
+    }
+
+    /// Makes the buffers anew.
+    fn wipe(&mut self, answer: &Answer) {
+        self.buffers.lend(answer.buffers.lengths().map(|length| length + MARGIN)).fill(UNTOUCHED);
+    }
+}
+
+/// A cell that may have been written.
+trait Cell: Copy + PartialEq + Debug {
+    const UNTOUCHED: Self;
+}
+
+impl Cell for u8 {
+    const UNTOUCHED: u8 = UNTOUCHED;
+}
+
+impl Cell for u16 {
+    const UNTOUCHED: u16 = u16::from_ne_bytes([UNTOUCHED; 2]);
+}
+
+/// A buffer starts with a part, and is left alone behind it.
+fn holds<T: Cell>(what: &str, buffer: &[T], part: &[T]) -> Fault {
+    same(what, &&buffer[..part.len()], &part)?;
+    same(&format!("what stands behind {what}"), &&buffer[part.len()..part.len() + MARGIN], &&[T::UNTOUCHED; MARGIN][..])
+}
+
+/// What was given is what was wanted.
+fn same<T: PartialEq + Debug>(what: &str, given: &T, wanted: &T) -> Fault {
+    if given == wanted {
+        return Ok(());
+    }
+    let clipped = |value: &T| format!("{value:?}").chars().take(300).collect::<String>();
+    Err(format!("{what}: {} and not {}", clipped(given), clipped(wanted)))
+}

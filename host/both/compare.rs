@@ -1,0 +1,201 @@
+//! Each line of files, read and written by both sides; docs/COMPARING.md is the guide.
+
+use crate::original;
+use crate::parts::{seen, visible, Form, Refusal};
+use crate::port::Port;
+use std::collections::BTreeMap;
+use std::fs::File;
+use std::io::{self, stdout, BufRead, BufReader, BufWriter, Write};
+use std::time::{Duration, Instant};
+
+/// How much of a value a person is shown.
+const CLIP: usize = 160;
+
+/// Compares both sides on each line of files, as a list to read or as TSV; whether all that differs is explained.
+pub fn command(tsv: bool, form: &str, files: &[&str]) -> Option<bool> {
+    let form = Form::named(form)?;
+    if files.is_empty() {
+        return None;
+    }
+    let mut report = Report { tsv, out: BufWriter::new(stdout()), port: Port::new(), said: Instant::now() };
+    match report.files(form, files) {
+        Ok(total) => Some(total.unexplained() == 0),
+        Err(error) => {
+            eprintln!("compare: {error}");
+            None
+        }
+    }
+}
+
+/// Something that the two sides say differently of a line.
+struct Difference {
+    part: &'static str,
+    original: String,
+    port: String,
+    item: Option<&'static str>,
+}
+
+/// What was met in a file.
+#[derive(Default)]
+struct Summary {
+    lines: u64,
+    accepted: u64,
+    refused: u64,
+    items: BTreeMap<&'static str, u64>,
+}
+
+impl Summary {
+    fn unexplained(&self) -> u64 {
+        self.items.get(UNEXPLAINED).copied().unwrap_or(0)
+    }
+
+    fn add(&mut self, other: &Summary) {
+        self.lines += other.lines;
+        self.accepted += other.accepted;
+        self.refused += other.refused;
+        other.items.iter().for_each(|(item, count)| *self.items.entry(item).or_default() += count);
+    }
+
+    fn told(&self, of: &str) -> String {
+        let differing: u64 = self.items.values().sum();
+        let items: Vec<String> =
+            self.items.iter().filter(|(item, _)| **item != UNEXPLAINED).map(|(item, count)| format!("{item}: {count}")).collect();
+        let explained = if items.is_empty() { String::new() } else { format!("{}, ", items.join(", ")) };
+        format!(
+            "{of}: {} lines, {} alike ({} accepted, {} refused), {differing} different ({explained}{UNEXPLAINED}: {})",
+            self.lines,
+            self.lines - differing,
+            self.accepted,
+            self.refused,
+            self.unexplained()
+        )
+    }
+}
+
+/// What stands in the place of an item where none explains a difference.
+const UNEXPLAINED: &str = "unexplained";
+
+struct Report<W: Write> {
+    tsv: bool,
+    out: W,
+    port: Port,
+    said: Instant,
+}
+
+impl<W: Write> Report<W> {
+    fn files(&mut self, form: Form, files: &[&str]) -> io::Result<Summary> {
+        let mut total = Summary::default();
+        if self.tsv {
+            writeln!(self.out, "file\tline\titem\tpart\toriginal\tport\ttext")?;
+        }
+        let mut told = vec![];
+        for file in files {
+            let summary = self.file(form, file).map_err(|error| io::Error::new(error.kind(), format!("{file}: {error}")))?;
+            told.push(summary.told(file));
+            total.add(&summary);
+        }
+        if files.len() > 1 {
+            told.push(total.told("in all"));
+        }
+        self.out.flush()?;
+        told.iter().try_for_each(|line| if self.tsv { writeln!(io::stderr(), "{line}") } else { writeln!(self.out, "{line}") })?;
+        self.out.flush()?;
+        Ok(total)
+    }
+
+    fn file(&mut self, form: Form, file: &str) -> io::Result<Summary> {
+        let mut lines = BufReader::new(File::open(file)?);
+        let mut summary = Summary::default();
+        let mut line = vec![];
+        while lines.read_until(b'\n', &mut line)? != 0 {
+            line.pop_if(|last| *last == b'\n');
+            summary.lines += 1;
+            self.line(form, file, &line, &mut summary)?;
+            line.clear();
+            if self.said.elapsed() > Duration::from_secs(5) {
+                self.said = Instant::now();
+                eprintln!("compare: {file}: {} lines", summary.lines);
+            }
+        }
+        Ok(summary)
+    }
+
+    /// Compares both sides on a line and prints how they differ.
+    fn line(&mut self, form: Form, file: &str, line: &[u8], summary: &mut Summary) -> io::Result<()> {
+        let (differences, accepted) = differences(&mut self.port, form, line);
+        if differences.is_empty() {
+            *if accepted { &mut summary.accepted } else { &mut summary.refused } += 1;
+            return Ok(());
+        }
+        let item = differences.iter().find(|d| d.item.is_none()).map_or(differences[0].item, |_| None).unwrap_or(UNEXPLAINED);
+        *summary.items.entry(item).or_default() += 1;
+        if self.tsv {
+            for Difference { part, original, port, item } in differences {
+                let item = item.unwrap_or(UNEXPLAINED);
+                writeln!(self.out, "{}\t{}\t{item}\t{part}\t{original}\t{port}\t{}", seen(file), summary.lines, visible(line))?;
+            }
+            return Ok(());
+        }
+        writeln!(self.out, "{file}:{}: {item}\n  line  {}", summary.lines, clipped(&visible(line), 0))?;
+        for Difference { part, original, port, .. } in differences {
+            let from = original.bytes().zip(port.bytes()).take_while(|(a, b)| a == b).count();
+            writeln!(self.out, "  {part}\n    the Rust  {}\n    the port  {}", clipped(&original, from), clipped(&port, from))?;
+        }
+        writeln!(self.out)
+    }
+}
+
+/// How both sides differ on a line, and whether the port accepts it.
+fn differences(port: &mut Port, form: Form, line: &[u8]) -> (Vec<Difference>, bool) {
+    let given = port.outcome(form, line);
+    let accepted = given.is_ok();
+    let port = given.as_ref().map_or_else(Refusal::to_string, |_| "accepts".into());
+    let whole = |original, item| vec![Difference { part: "answer", original, port: port.clone(), item }];
+    let text = std::str::from_utf8(line);
+    if line.len() > 4096 {
+        let told = text.map(|text| original::read(form, text).map_or_else(said, |s| format!("accepts: {} characters", s.char_types().len())));
+        let item = (given == Err(Refusal { number: 1, place: 4096 })).then_some("D2");
+        return (whole(told.unwrap_or_else(not_utf8), item), accepted);
+    }
+    let text = match text {
+        Ok(text) => text,
+        Err(error) => {
+            let item = (given == Err(Refusal { number: 2, place: error.valid_up_to() as u64 })).then_some("D1");
+            return (whole(not_utf8(error), item), accepted);
+        }
+    };
+    let found = match (original::outcome(form, text), given) {
+        (Ok(told), Ok(given)) if told == given => vec![],
+        (Ok(told), Ok(given)) => told
+            .parts()
+            .into_iter()
+            .zip(given.parts())
+            .filter(|(told, given)| told != given)
+            .map(|((part, original), (_, port))| Difference { part, original, port, item: None })
+            .collect(),
+        (Err(told), Err(given)) if told.refusal == given => vec![],
+        (Err(told), _) => whole(format!("{} ({})", told.refusal, seen(&told.message)), None),
+        (Ok(_), Err(_)) => whole("accepts".into(), None),
+    };
+    (found, accepted)
+}
+
+fn said(message: String) -> String {
+    format!("refuses: {}", seen(&message))
+}
+
+fn not_utf8(error: std::str::Utf8Error) -> String {
+    format!("cannot be given the line: it is not UTF-8 from byte {} on", error.valid_up_to())
+}
+
+/// So much of a value as fits, from a little before a byte of interest.
+fn clipped(value: &str, from: usize) -> String {
+    let before = value.char_indices().take_while(|(at, _)| *at < from).count().saturating_sub(CLIP / 4);
+    let length = value.chars().count();
+    if length <= CLIP {
+        return value.into();
+    }
+    let part: String = value.chars().skip(before).take(CLIP).collect();
+    let (front, back) = (if before > 0 { "…" } else { "" }, if before + CLIP < length { "…" } else { "" });
+    format!("{front}{part}{back} ({length} characters)")
+}

@@ -1,0 +1,89 @@
+//! The lines that both sides are asked about. Everything is counted out or drawn from a seed.
+
+use crate::parts::Form;
+use oracle::cases;
+use oracle::draw::Draw;
+
+/// A line, and where it comes from.
+pub type Asked = (&'static str, Vec<u8>);
+
+/// The lines of the recorded lists.
+pub fn recorded() -> Vec<Asked> {
+    let mut lines: Vec<Vec<u8>> = cases::answers().into_iter().map(|(_, line)| line).collect();
+    lines.extend(cases::long().iter().map(|(_, parts)| parts.iter().flat_map(|(part, count)| part.repeat(*count).into_bytes()).collect()));
+    lines.sort();
+    lines.dedup();
+    lines.into_iter().map(|line| ("recorded", line)).collect()
+}
+
+/// Every line of so many characters over small alphabets.
+pub fn short(long_run: bool) -> impl Iterator<Item = Asked> {
+    let alphabets: &[(&[char], usize)] = match long_run {
+        false => &[(&['a', 'あ', ' ', '/', '\\', '-', '|'], 4), (&['a', '/', ' '], 6), (&['あ', '-', '/', '\\'], 5)],
+        true => &[
+            (&['a', 'あ', ' ', '/', '\\', '-', '|', '\0', '𠀀'], 4),
+            (&['a', 'あ', ' ', '/', '\\', '-', '|', '\0'], 5),
+            (&['あ', ' ', '/', '\\', '-', '|'], 6),
+            (&['a', ' ', '/', '\\'], 8),
+            (&['é', '-', '|', '/', '\\'], 7),
+            (&['あ', ' ', '/'], 10),
+            (&['a', '-', '/'], 10),
+        ],
+    };
+    alphabets.iter().flat_map(|(alphabet, length)| cases::every(alphabet, *length)).map(|line| ("short", line.into_bytes()))
+}
+
+/// A drawn line of any form, whole or damaged.
+pub fn drawn(draw: &mut Draw) -> Asked {
+    let line = match draw.below(3) {
+        0 => draw.raw(),
+        1 => draw.tokenized(),
+        _ => draw.partial(),
+    };
+    match draw.below(3) {
+        0 => ("damaged", draw.damaged(&line)),
+        _ => ("drawn", line.into_bytes()),
+    }
+}
+
+/// A drawn line of a form that ends within a few bytes of the limit of 4,096.
+pub fn near_limit(draw: &mut Draw, form: Form) -> Asked {
+    let goal = 4088 + draw.below(14);
+    let mut line = String::new();
+    while line.len() < goal {
+        let (between, part) = match form {
+            Form::Raw => ("", draw.raw()),
+            Form::Tokenized => (" ", draw.tokenized()),
+            Form::Partial => (draw.one(&["-", "|", " "]), draw.partial()),
+        };
+        if line.len() + between.len() + part.len() > goal {
+            break;
+        }
+        line += if line.is_empty() { "" } else { between };
+        line += &part;
+    }
+    if form == Form::Partial && line.len() < goal {
+        line.push('/');
+    }
+    line += &"a".repeat(goal - line.len());
+    match draw.below(4) {
+        0 => ("damaged near the limit", draw.damaged(&line)),
+        _ => ("near the limit", line.into_bytes()),
+    }
+}
+
+/// A line of a few tokens, one of them with up to so many tags.
+pub fn wide(draw: &mut Draw, most: usize) -> Asked {
+    let columns = draw.below(most + 1);
+    let each = draw.one(&["/", "/", "/x", "/あ", "//y", "/\\/"]);
+    let tags: String = each.repeat(columns / each.matches('/').count());
+    let mark = draw.one(&[" ", "|", "-"]);
+    let (before, after) = (draw.below(12), draw.below(12));
+    let line = format!("{}漢{tags}{}", format!("a/x{mark}").repeat(before), format!("{mark}b").repeat(after));
+    ("wide", line.into_bytes())
+}
+
+/// The line of 4,096 bytes that is written back to the most: as partial, 1,025 slashes with 2,047 columns.
+pub fn longest() -> Asked {
+    ("longest", ["/".repeat(2048), "|/".repeat(1024)].concat().into_bytes())
+}

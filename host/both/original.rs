@@ -1,0 +1,100 @@
+//! What the original says of a line, in the shape of document 01's sheet.
+
+use crate::parts::{Answer, Buffers, Form, Refusal};
+use oracle::answer;
+use vaporetto::sentence::inside;
+use vaporetto::Sentence;
+
+/// What the original refused, as document 01 counts it, and in its own words.
+pub struct Refused {
+    pub refusal: Refusal,
+    pub message: String,
+}
+
+/// Reads a line in a form.
+pub fn read(form: Form, line: &str) -> Result<Sentence<'_, '_>, String> {
+    answer::read(form.letter(), line).map_err(|error| error.to_string())
+}
+
+/// All that the original says of a line of at most 4,096 bytes.
+pub fn outcome(form: Form, line: &str) -> Result<Answer, Refused> {
+    match read(form, line) {
+        Ok(sentence) => Ok(answered(&sentence)),
+        Err(message) => {
+            let number = number(&message);
+            let place = if matches!(number, 3 | 8 | 10) { line.len() } else { place(form, line, &message) };
+            Err(Refused { refusal: Refusal { number, place: place as u64 }, message })
+        }
+    }
+}
+
+/// The number that document 01 gives to a message of the original.
+fn number(message: &str) -> u64 {
+    let numbers = [
+        ("must contain at least one character", 3),
+        ("must not contain NULL", 4),
+        ("must not start with a whitespace", 5),
+        ("must not contain consecutive whitespaces", 6),
+        ("a slash must follow a character", 7),
+        ("must not end with a whitespace", 8),
+        ("contains an invalid boundary character", 9),
+        ("invalid annotation", 10),
+    ];
+    numbers.iter().find(|(part, _)| message.contains(part)).expect("a message that document 01 numbers").1
+}
+
+/// The byte at which the original stops: the last character of the shortest beginning of the line that it refuses in the same words.
+fn place(form: Form, line: &str, message: &str) -> usize {
+    let ends: Vec<usize> = line.char_indices().map(|(start, c)| start + c.len_utf8()).collect();
+    let whole = ends.partition_point(|&end| read(form, &line[..end]).err().as_deref() != Some(message));
+    ends[..whole].last().copied().unwrap_or(0)
+}
+
+/// A sentence of the original laid out as document 01 says.
+pub fn answered(sentence: &Sentence) -> Answer {
+    let (row_ends, tag_ends, tag_bytes) = tags(sentence);
+    let narrow = |positions: &[usize]| positions.iter().map(|&p| p as u16).collect();
+    let buffers = Buffers {
+        text: sentence.as_raw_text().into(),
+        types: sentence.char_types().to_vec(),
+        boundaries: sentence.boundaries().iter().map(|&b| b as u8).collect(),
+        char_pos: narrow(inside::char_positions(sentence)),
+        byte_pos: narrow(inside::byte_positions(sentence)),
+        row_ends,
+        tag_ends,
+        tag_bytes,
+    };
+    let mut tokenized = String::new();
+    sentence.write_tokenized_text(&mut tokenized);
+    let mut partial = String::new();
+    sentence.write_partial_annotation_text(&mut partial);
+    Answer {
+        record: [buffers.types.len(), buffers.text.len(), sentence.n_tags(), buffers.tag_ends.len(), buffers.tag_bytes.len()],
+        tokens: Ok(sentence.iter_tokens().map(|t| [t.start() as u64, t.end() as u64]).collect()),
+        tokenized: Ok(tokenized.into()),
+        partial: Ok(partial.into()),
+        buffers,
+    }
+}
+
+/// Row ends, tag ends and tag bytes: each row of the padded table up to its last present tag.
+fn tags(sentence: &Sentence) -> (Vec<u16>, Vec<u16>, Vec<u8>) {
+    let (mut row_ends, mut tag_ends, mut tag_bytes) = (vec![], vec![], vec![]);
+    for i in 0..sentence.char_types().len() {
+        let row = &sentence.tags()[i * sentence.n_tags()..(i + 1) * sentence.n_tags()];
+        let listed = row.iter().rposition(Option::is_some).map_or(0, |last| last + 1);
+        for tag in &row[..listed] {
+            tag_bytes.extend(tag.as_ref().map_or("", |t| t).bytes());
+            tag_ends.push(tag_bytes.len() as u16);
+        }
+        row_ends.push(tag_ends.len() as u16);
+    }
+    (row_ends, tag_ends, tag_bytes)
+}
+
+/// A step of the original's token iterator set down at a place: a token or none, and where it stands after.
+pub fn next_token(sentence: &Sentence, place: usize) -> (Option<[u64; 2]>, u64) {
+    let mut tokens = inside::tokens_from(sentence, place);
+    let token = tokens.next().map(|t| [t.start() as u64, t.end() as u64]);
+    (token, inside::place(&tokens) as u64)
+}

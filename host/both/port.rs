@@ -1,0 +1,275 @@
+//! The port: its exported functions, called on lent buffers.
+
+use crate::parts::{Answer, Buffers, Form, Lent, Record, Refusal, AMPLE, LONGEST};
+
+/// What the static library of crates/exports offers: a slice is a pointer and a length.
+mod exported {
+    #[link(name = "exports", kind = "static")]
+    extern "C" {
+        pub fn ighdelmur_convert(reader: u32, writer: u32, line: *const u8, length: usize, out: *mut u8, room: usize, at: usize) -> u64;
+
+        pub fn ighdelmur_read(
+            form: u32,
+            line: *const u8,
+            length: usize,
+            text: *mut u8,
+            text_room: usize,
+            types: *mut u8,
+            types_room: usize,
+            boundaries: *mut u8,
+            boundaries_room: usize,
+            char_pos: *mut u16,
+            char_pos_room: usize,
+            byte_pos: *mut u16,
+            byte_pos_room: usize,
+            row_ends: *mut u16,
+            row_ends_room: usize,
+            tag_ends: *mut u16,
+            tag_ends_room: usize,
+            tag_bytes: *mut u8,
+            tag_bytes_room: usize,
+            numbers: *mut u64,
+            numbers_room: usize,
+        ) -> u64;
+
+        pub fn ighdelmur_write(
+            form: u32,
+            n: usize,
+            b: usize,
+            columns: usize,
+            k: usize,
+            g: usize,
+            text: *const u8,
+            text_room: usize,
+            types: *const u8,
+            types_room: usize,
+            boundaries: *const u8,
+            boundaries_room: usize,
+            char_pos: *const u16,
+            char_pos_room: usize,
+            byte_pos: *const u16,
+            byte_pos_room: usize,
+            row_ends: *const u16,
+            row_ends_room: usize,
+            tag_ends: *const u16,
+            tag_ends_room: usize,
+            tag_bytes: *const u8,
+            tag_bytes_room: usize,
+            out: *mut u8,
+            room: usize,
+        ) -> u64;
+
+        pub fn ighdelmur_next_token(
+            n: usize,
+            b: usize,
+            columns: usize,
+            k: usize,
+            g: usize,
+            text: *const u8,
+            text_room: usize,
+            types: *const u8,
+            types_room: usize,
+            boundaries: *const u8,
+            boundaries_room: usize,
+            char_pos: *const u16,
+            char_pos_room: usize,
+            byte_pos: *const u16,
+            byte_pos_room: usize,
+            row_ends: *const u16,
+            row_ends_room: usize,
+            tag_ends: *const u16,
+            tag_ends_room: usize,
+            tag_bytes: *const u8,
+            tag_bytes_room: usize,
+            p: usize,
+            span: *mut u64,
+            span_room: usize,
+        ) -> u64;
+    }
+}
+
+/// An answer, or the refusal that is 2^63 plus 256 times its place plus its number.
+fn taken(code: u64) -> Result<u64, Refusal> {
+    match code.checked_sub(1 << 63) {
+        Some(rest) => Err(spoil::refusal(Refusal { number: rest % 256, place: rest / 256 })),
+        None => Ok(code),
+    }
+}
+
+/// The line read in one form and written in another behind `at` bytes of the output: where it ends.
+pub fn convert(reader: u32, writer: u32, line: &[u8], out: &mut [u8], at: usize) -> Result<u64, Refusal> {
+    taken(unsafe { exported::ighdelmur_convert(reader, writer, line.as_ptr(), line.len(), out.as_mut_ptr(), out.len(), at) })
+}
+
+/// The line read into lent buffers: 0, and N, B, columns, K and G in the first five numbers.
+pub fn read(form: u32, line: &[u8], lent: &mut Lent, numbers: &mut [u64]) -> Result<u64, Refusal> {
+    let read = taken(unsafe {
+        exported::ighdelmur_read(
+            form,
+            line.as_ptr(),
+            line.len(),
+            lent.text.as_mut_ptr(),
+            lent.text.len(),
+            lent.types.as_mut_ptr(),
+            lent.types.len(),
+            lent.boundaries.as_mut_ptr(),
+            lent.boundaries.len(),
+            lent.char_pos.as_mut_ptr(),
+            lent.char_pos.len(),
+            lent.byte_pos.as_mut_ptr(),
+            lent.byte_pos.len(),
+            lent.row_ends.as_mut_ptr(),
+            lent.row_ends.len(),
+            lent.tag_ends.as_mut_ptr(),
+            lent.tag_ends.len(),
+            lent.tag_bytes.as_mut_ptr(),
+            lent.tag_bytes.len(),
+            numbers.as_mut_ptr(),
+            numbers.len(),
+        )
+    });
+    spoil::read(read, lent, numbers)
+}
+
+/// The sentence of lent buffers written into the output: its length.
+pub fn write(form: u32, [n, b, columns, k, g]: Record, lent: &Lent, out: &mut [u8]) -> Result<u64, Refusal> {
+    let wrote = taken(unsafe {
+        exported::ighdelmur_write(
+            form,
+            n,
+            b,
+            columns,
+            k,
+            g,
+            lent.text.as_ptr(),
+            lent.text.len(),
+            lent.types.as_ptr(),
+            lent.types.len(),
+            lent.boundaries.as_ptr(),
+            lent.boundaries.len(),
+            lent.char_pos.as_ptr(),
+            lent.char_pos.len(),
+            lent.byte_pos.as_ptr(),
+            lent.byte_pos.len(),
+            lent.row_ends.as_ptr(),
+            lent.row_ends.len(),
+            lent.tag_ends.as_ptr(),
+            lent.tag_ends.len(),
+            lent.tag_bytes.as_ptr(),
+            lent.tag_bytes.len(),
+            out.as_mut_ptr(),
+            out.len(),
+        )
+    });
+    spoil::write(wrote, form, out)
+}
+
+/// A step of the token cursor from `p`: 1 and a token's start and end, or 0 and where the cursor stands.
+pub fn next_token([n, b, columns, k, g]: Record, lent: &Lent, p: usize, span: &mut [u64]) -> Result<u64, Refusal> {
+    let stepped = taken(unsafe {
+        exported::ighdelmur_next_token(
+            n,
+            b,
+            columns,
+            k,
+            g,
+            lent.text.as_ptr(),
+            lent.text.len(),
+            lent.types.as_ptr(),
+            lent.types.len(),
+            lent.boundaries.as_ptr(),
+            lent.boundaries.len(),
+            lent.char_pos.as_ptr(),
+            lent.char_pos.len(),
+            lent.byte_pos.as_ptr(),
+            lent.byte_pos.len(),
+            lent.row_ends.as_ptr(),
+            lent.row_ends.len(),
+            lent.tag_ends.as_ptr(),
+            lent.tag_ends.len(),
+            lent.tag_bytes.as_ptr(),
+            lent.tag_bytes.len(),
+            p,
+            span.as_mut_ptr(),
+            span.len(),
+        )
+    });
+    spoil::next_token(stepped, span)
+}
+
+/// The port with room for every line, for whoever asks line by line.
+pub struct Port {
+    buffers: Buffers,
+    out: Vec<u8>,
+}
+
+impl Port {
+    pub fn new() -> Self {
+        Self { buffers: Buffers::filled(AMPLE, 0), out: vec![0; LONGEST] }
+    }
+
+    /// All that the port says of a line.
+    pub fn outcome(&mut self, form: Form, line: &[u8]) -> Result<Answer, Refusal> {
+        let mut lent = self.buffers.lend(AMPLE);
+        let mut numbers = [0; 5];
+        read(form as u32, line, &mut lent, &mut numbers)?;
+        let record = numbers.map(|number| number as usize);
+        let mut line = |form| write(form as u32, record, &lent, &mut self.out).map(|length| self.out[..length as usize].to_vec());
+        let (tokenized, partial) = (line(Form::Tokenized), line(Form::Partial));
+        Ok(Answer { record, buffers: held(record, &lent), tokens: tokens(record, &lent), tokenized, partial })
+    }
+}
+
+/// The tokens from the first character on.
+fn tokens(record: Record, lent: &Lent) -> Result<Vec<[u64; 2]>, Refusal> {
+    let mut all = vec![];
+    let mut span = [0; 2];
+    while next_token(record, lent, span[1] as usize, &mut span)? == 1 && all.len() < record[0] {
+        all.push(span);
+    }
+    Ok(all)
+}
+
+/// What a record says of lent buffers, as far as they go.
+fn held([n, b, _, k, g]: Record, lent: &Lent) -> Buffers {
+    fn front<T: Copy>(of: &[T], length: usize) -> Vec<T> {
+        of[..length.min(of.len())].to_vec()
+    }
+    Buffers {
+        text: front(lent.text, b),
+        types: front(lent.types, n),
+        boundaries: front(lent.boundaries, n.saturating_sub(1)),
+        char_pos: front(lent.char_pos, n.saturating_add(1)),
+        byte_pos: front(lent.byte_pos, b.saturating_add(1)),
+        row_ends: front(lent.row_ends, n),
+        tag_ends: front(lent.tag_ends, k),
+        tag_bytes: front(lent.tag_bytes, g),
+    }
+}
+
+/// Hands the port's answers on as they are.
+#[cfg(not(wrong))]
+mod spoil {
+    use crate::parts::{Lent, Refusal};
+
+    pub fn refusal(refusal: Refusal) -> Refusal {
+        refusal
+    }
+
+    pub fn read(read: Result<u64, Refusal>, _: &mut Lent, _: &mut [u64]) -> Result<u64, Refusal> {
+        read
+    }
+
+    pub fn write(wrote: Result<u64, Refusal>, _: u32, _: &mut [u8]) -> Result<u64, Refusal> {
+        wrote
+    }
+
+    pub fn next_token(stepped: Result<u64, Refusal>, _: &mut [u64]) -> Result<u64, Refusal> {
+        stepped
+    }
+}
+
+/// Makes wrong what `SPOIL` names: only in the build that tests whether a wrong port is reported.
+#[cfg(wrong)]
+#[path = "spoil.rs"]
+mod spoil;

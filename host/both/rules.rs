@@ -1,0 +1,135 @@
+//! Document 01's refusals once more, written from its text and not from the original.
+
+use crate::parts::{Form, Lent, Record, Refusal};
+use vaporetto::CharacterType;
+
+/// The refusal of a line, if there is one, wherever there is room enough.
+pub fn refusal(form: Form, line: &[u8]) -> Option<Refusal> {
+    if line.len() > 4096 {
+        return Some(Refusal { number: 1, place: 4096 });
+    }
+    let found = match std::str::from_utf8(line) {
+        Err(error) => Some((2, error.valid_up_to())),
+        Ok(text) => match form {
+            Form::Raw => raw(text),
+            Form::Tokenized => tokenized(text),
+            Form::Partial => partial(text),
+        },
+    };
+    found.map(|(number, place)| Refusal { number, place: place as u64 })
+}
+
+/// All characters, none NUL, at least one.
+fn raw(line: &str) -> Option<(u64, usize)> {
+    line.find('\0').map(|place| (4, place)).or(line.is_empty().then_some((3, 0)))
+}
+
+/// A space before any text (5) or after a space (6), a slash before text or right after a space (7), a space at the end (8).
+fn tokenized(line: &str) -> Option<(u64, usize)> {
+    let (mut any, mut after_space, mut escaped) = (false, false, false);
+    for (place, c) in line.char_indices() {
+        match (c, escaped) {
+            ('\0', _) => return Some((4, place)),
+            ('\\', false) => escaped = true,
+            (' ', false) if !any => return Some((5, place)),
+            (' ', false) if after_space => return Some((6, place)),
+            (' ', false) => after_space = true,
+            ('/', false) if !any || after_space => return Some((7, place)),
+            _ => (any, after_space, escaped) = (true, false, false),
+        }
+    }
+    match (any, after_space) {
+        (false, _) => Some((3, line.len())),
+        (true, true) => Some((8, line.len())),
+        (true, false) => None,
+    }
+}
+
+/// Where a line of the partial form stands.
+#[derive(PartialEq)]
+enum Awaits {
+    First,
+    Character,
+    Mark,
+    MarkOrTag,
+}
+
+/// A character taken literally, tags, a mark: a bad mark (9), a line that ends after a mark (10).
+fn partial(line: &str) -> Option<(u64, usize)> {
+    let (mut awaits, mut escaped) = (Awaits::First, false);
+    for (place, c) in line.char_indices() {
+        let literal = awaits == Awaits::First || awaits == Awaits::Character;
+        match (c, escaped) {
+            ('\0', _) => return Some((4, place)),
+            _ if literal => awaits = Awaits::Mark,
+            ('\\', false) => escaped = true,
+            (' ' | '-' | '|', false) => awaits = Awaits::Character,
+            ('/', false) => awaits = Awaits::MarkOrTag,
+            _ if awaits == Awaits::Mark => return Some((9, place)),
+            _ => escaped = false,
+        }
+    }
+    match awaits {
+        Awaits::First => Some((3, line.len())),
+        Awaits::Character => Some((10, line.len())),
+        _ => None,
+    }
+}
+
+/// Whether a record and buffers are a sentence as document 01 lays it out, within its limits.
+pub fn is_sheet([n, b, columns, k, g]: Record, lent: &Lent) -> bool {
+    let limits = n >= 1 && b <= 4096 && n <= b && columns <= 4096 && k <= 65535 && g <= 65535;
+    limits
+        && lent.text.len() >= b
+        && lent.types.len() >= n
+        && lent.boundaries.len() >= n - 1
+        && lent.char_pos.len() > n
+        && lent.byte_pos.len() > b
+        && lent.row_ends.len() >= n
+        && lent.tag_ends.len() >= k
+        && lent.tag_bytes.len() >= g
+        && characters(n, b, lent)
+        && lent.boundaries[..n - 1].iter().all(|&mark| mark <= 2)
+        && rows(columns, &lent.row_ends[..n], &lent.tag_ends[..k], &lent.tag_bytes[..g])
+}
+
+/// The text, its types and its two position maps.
+fn characters(n: usize, b: usize, lent: &Lent) -> bool {
+    let Some(text) = clean(&lent.text[..b]) else { return false };
+    let starts: Vec<usize> = text.char_indices().map(|(start, _)| start).chain([b]).collect();
+    let mut numbers = vec![0; b + 1];
+    starts.iter().enumerate().for_each(|(number, &start)| numbers[start] = number as u16);
+    starts.len() == n + 1
+        && text.chars().zip(&lent.types[..n]).all(|(c, &kind)| CharacterType::get_type(c) as u8 == kind)
+        && starts.iter().zip(&lent.char_pos[..n + 1]).all(|(&start, &position)| start == position as usize)
+        && numbers == lent.byte_pos[..b + 1]
+}
+
+/// Rows that run through the listed tags, each of at most `columns` of them and ending in a present one; tags that run through their bytes.
+fn rows(columns: usize, row_ends: &[u16], tag_ends: &[u16], bytes: &[u8]) -> bool {
+    let (mut row, mut tag) = (0, 0);
+    for &end in tag_ends {
+        let end = end as usize;
+        if end < tag || end > bytes.len() || clean(&bytes[tag..end]).is_none() {
+            return false;
+        }
+        tag = end;
+    }
+    for &end in row_ends {
+        let end = end as usize;
+        if end < row || end > tag_ends.len() || end - row > columns {
+            return false;
+        }
+        let before = if end >= 2 { tag_ends[end - 2] } else { 0 };
+        if end > row && tag_ends[end - 1] == before {
+            return false;
+        }
+        row = end;
+    }
+    row == tag_ends.len() && tag == bytes.len()
+}
+
+/// Bytes as text, where they are UTF-8 without NUL.
+fn clean(bytes: &[u8]) -> Option<&str> {
+    std::str::from_utf8(bytes).ok().filter(|text| !text.contains('\0'))
+}
