@@ -1,42 +1,15 @@
--- The conversion of a line from one form to another, and the host's call: its order of refusals, its answer and its output.
-use Prim.Native.Nat.{ℕ, zero, suc, _+_, _-_, _*_, _^_}
-use mathlib.Core.Path.{_≡_}
-use mathlib.Core.Bool.{Bool, true, false, _||_}
-use mathlib.Core.List.{List, [], _∷_, _++_}
+-- The conversion by form numbers, behind a place of an output, and the host's number for its answer.
+use Prim.Native.Nat.{ℕ, _+_, _-_, _*_, _^_}
+use mathlib.Core.Bool.{Bool, _||_}
+use mathlib.Core.List.{List}
 use lib.Dec.{eqb, ltb}
-use lib.ListN.{length, take, drop}
-use Rattle.laws.specs.Put.{over}
-use Rattle.sentence.specs.declared.Refusal.{Refusal}
-use Rattle.sentence.specs.Sentence.{Sentence}
-use Rattle.sentence.specs.Reading.{Form, raw, tokenized, partial, read}
-use Rattle.sentence.specs.Writing.{written}
-use Rattle.sentence.specs.Refusals.{hostOrder}
-use Rattle.convert.specs.declared.Converted.{Converted}
-use Rattle.convert.specs.declared.Converted.the-variants.{Wrote, Refused}
-
--- the forms by number: 0 raw, 1 tokenized, 2 partial
-unfoldable pub formOf : ℕ → Form
-formOf zero = raw
-formOf (suc zero) = tokenized
-formOf (suc (suc n)) = partial
+use Rattle.passage.specs.Between.{Outcome, formOf, between}
+use Rattle.passage.specs.declared.Converted.{Converted}
+use Rattle.passage.specs.declared.Converted.the-variants.{Wrote, Refused}
 
 -- a number above 2 is no form, and raw is no form to write
 unfoldable pub unknownForms : ℕ → ℕ → Bool
 unknownForms reader writer = ltb 2 reader || eqb writer 0 || ltb 2 writer
-
--- what a conversion gives: the written line, or a refusal
-pub data Outcome : Type 0 where
-  writes : List ℕ → Outcome
-  refuses : Refusal → Outcome
-
--- a line by two forms into so much room: 16, 14, what the reader refuses, 12 at the written line's length
-unfoldable pub between : Bool → Bool → Form → Form → ℕ → List ℕ → Outcome
-between unknown outside f g room x =
-    hostOrder refuses unknown outside
-    (λ (s : Sentence). ltb room (length (written g s)))
-    (λ (s : Sentence). length (written g s))
-    (λ (s : Sentence). writes (written g s))
-    (read f x)
 
 -- an output longer than 1,048,576, or a place past its end
 unfoldable pub outOfRange : ℕ → ℕ → Bool
@@ -46,22 +19,7 @@ outOfRange size at = ltb 1048576 size || ltb size at
 unfoldable pub conversion : ℕ → ℕ → List ℕ → ℕ → ℕ → Outcome
 conversion reader writer x size at = between (unknownForms reader writer) (outOfRange size at) (formOf reader) (formOf writer) (size - at) x
 
--- the answer: where the written line ends, or the refusal
-unfoldable pub answerOf : ℕ → Outcome → Converted
-answerOf at (writes w) = Wrote (at + length w)
-answerOf at (refuses r) = Refused r
-
--- the output after it: the written line stands behind the place, and every other byte is as it was
-unfoldable pub outputOf : ℕ → Outcome → List ℕ → List ℕ
-outputOf at (writes w) d = take at d ++ over w (drop at d)
-outputOf at (refuses r) d = d
-
 -- an answer as the host's number: the end place, or 2^63 plus 256 times the refusal's place plus its number
 unfoldable pub codeOf : Converted → ℕ
 codeOf (Wrote e) = e
 codeOf (Refused r) = 2 ^ 63 + 256 * r .place + r .number
-
--- the answer r, as told, and the output after it
-pub record Converts {A : Type 0} (tell : Converted → A) (o : Outcome) (at : ℕ) (out : List ℕ) (r : A) (out′ : List ℕ) : Type 0 where
-  pub answer : r ≡ tell (answerOf at o)
-  pub output : out′ ≡ outputOf at o out

@@ -10,7 +10,7 @@ use lib.Dec.{ltb}
 use lib.ListN.{length, set, length-append}
 use Rattle.respelling.specs.Puts.{Puts}
 use Rattle.respelling.specs.Decimal.{digits, decimal}
-use Rattle.respelling.proofs.Puts.{puts-none, puts-byte}
+use Rattle.respelling.proofs.Puts.{puts-byte, puts-then, puts-long}
 
 digits-small : (k n : ℕ) → n < 10 → digits (suc k) n ≡ (48 + n) ∷ []
 unfolding digits
@@ -62,13 +62,19 @@ pub decimal-short : (n : ℕ) → n < 2 ^ 64 → length (decimal n) ≤ 20
 decimal-short n h = short 19 n (omega arith)
 
 -- ---- digits put into a slice
-pub put-one : {n : ℕ} {out : List ℕ} → n < 10 → length (decimal n) ≤ length out → Puts (decimal n) out 1 (set out 0 (48 + n))
-put-one {n} {out} h l =
-    let e : decimal n ≡ (48 + n) ∷ [] = decimal-small n h in
-    rw e (puts-byte (puts-none out) (48 + n) (omega (arith, ap length e)))
+pub put-one : {n : ℕ} {out : List ℕ} {at : ℕ} → n < 10 → at + length (decimal n) ≤ length out → Puts (decimal n) out at (at + 1) (set out at (48 + n))
+put-one {n} {out} {at} h l = rw (decimal-small n h) (puts-byte out at (48 + n) (omega (arith, some-digits n)))
 
-pub put-more : {n k : ℕ} {out mid : List ℕ} → 10 ≤ n → Puts (decimal (n / 10)) out k mid → length (decimal n) ≤ length out
-    → Puts (decimal n) out (k + 1) (set mid k (48 + n % 10))
-put-more {n} h p l =
-    let e : decimal n ≡ decimal (n / 10) ++ ((48 + n % 10) ∷ []) = decimal-more n h in
-    rw e (puts-byte p (48 + n % 10) (omega (arith, more-digits n h)))
+pub put-more : {n k : ℕ} {out mid : List ℕ} {at : ℕ} → 10 ≤ n → at + length (decimal n) ≤ length out → Puts (decimal (n / 10)) out at k mid
+    → Puts (decimal n) out at (k + 1) (set mid k (48 + n % 10))
+put-more {n} {k} {out} {mid} {at} h l p =
+    let d = more-digits n h in
+    let e : length mid ≡ length out = puts-long p (omega arith) (omega arith) in
+    rw (decimal-more n h) (puts-then p (omega arith) (puts-byte mid k (48 + n % 10) (omega (arith, p .end))))
+
+-- a byte behind them
+pub put-end : (n b : ℕ) {k : ℕ} {out mid : List ℕ} {at : ℕ} → length (decimal n) ≤ 20 → at + 21 ≤ length out → Puts (decimal n) out at k mid
+    → Puts (decimal n ++ (b ∷ [])) out at (k + 1) (set mid k b)
+put-end n b {k} {out} {mid} {at} l h p =
+    let e : length mid ≡ length out = puts-long p (omega arith) (omega arith) in
+    puts-then p (omega arith) (puts-byte mid k b (omega (arith, p .end)))

@@ -1,38 +1,52 @@
--- Bytes put at the front of a slice, one part after another. Assumes nothing.
+-- Bytes put into a slice, one part behind another. Assumes nothing.
 use Prim.Native.Nat.{ℕ, suc, _+_, _-_, _≤_, _<_}
 use native.Mathlib.Omega.{arith}
-use native.Mathlib.Nat.{zero-add, add-zero}
+use native.Mathlib.Nat.{add-zero}
 use native.Mathlib.Numerals.{add-one}
 use mathlib.Core.Path.{_≡_, refl, sym, ap, _∙_}
 use mathlib.Core.List.{List, [], _∷_, _++_, append-assoc}
 use lib.ListN.{length, take, drop, set, getD, length-append, length-drop, take-append-drop}
-use lib.Seq.{drop-cons, set-append-seam, take-append-seam, drop-append-seam, drop-append-le, length-take-le, drop-drop}
+use lib.Seq.{take-append-add, drop-append-add, take-append-seam, drop-append-seam, length-take-le, drop-drop, drop-append-le, set-split, take-set-le, drop-set-lt}
 use Rattle.laws.specs.Put.{over}
 use Rattle.respelling.specs.Puts.{Puts}
 
-pub puts-none : (d : List ℕ) → Puts [] d 0 d
-puts-none d = record { count = refl; output = refl }
+pub puts-none : (d : List ℕ) (at : ℕ) → Puts [] d at at d
+puts-none d at = record { end = omega arith; output = rw take-append-drop }
 
-module _ {w d : List ℕ} {r : ℕ} {d′ : List ℕ} (p : Puts w d r d′) where
-  -- a byte behind them
-  pub puts-byte : (b : ℕ) → length w < length d → Puts (w ++ (b ∷ [])) d (r + 1) (set d′ r b)
-  puts-byte b h =
-      let e : length (w ++ (b ∷ [])) ≡ suc (length w) = omega (arith, length-append w (b ∷ [])) in record {
-        count = omega (arith, p .count, e);
-        output = rw (p .output, p .count, drop-cons d (length w) 0 h, set-append-seam, e, append-assoc);
-      }
+pub puts-byte : (d : List ℕ) (at b : ℕ) → at < length d → Puts (b ∷ []) d at (at + 1) (set d at b)
+puts-byte d at b h = record { end = refl; output = set-split d at b h ∙ rw (drop-drop, add-one) }
 
-  -- a part behind them, where m bytes were lent for it
-  pub puts-part : {v e : List ℕ} {k : ℕ} (m : ℕ) → Puts v (take m (drop r d′)) k e → length w + m ≤ length d → length v ≤ m
-      → Puts (w ++ v) d (r + k) (take r d′ ++ (e ++ drop m (drop r d′)))
-  puts-part {v} {e} {k} m q h l =
-      let t : take r d′ ≡ w = rw (p .output, p .count) (take-append-seam w _) in
-      let u : drop r d′ ≡ drop (length w) d = rw (p .output, p .count) (drop-append-seam w _) in
-      let a : List ℕ = drop (length w) d in
-      let f : length v ≤ length (take m a) = omega (arith, length-take-le m a (omega (arith, length-drop (length w) d))) in
-      let g : drop (length v) a ≡ drop (length v) (take m a) ++ drop m a = rw take-append-drop at (drop-append-le (length v) (take m a) (drop m a) f) in
-      let s : e ≡ over v (take m a) = rw u at (q .output) in
-      record {
-        count = omega (arith, p .count, q .count, length-append w v);
-        output = rw (t, u, s, length-append, append-assoc v, ← g, drop-drop, append-assoc w);
-      }
+-- bytes that a callee put at the front of a part of k bytes that it was lent
+pub puts-lent : (v d : List ℕ) (s k : ℕ) {e : List ℕ} → e ≡ over v (take k (drop s d)) → length v ≤ k → s + k ≤ length d
+    → Puts v d s (s + length v) (take s d ++ (e ++ drop k (drop s d)))
+puts-lent v d s k {e} q l h =
+    let a : List ℕ = drop s d in
+    let f : length v ≤ length (take k a) = omega (arith, length-take-le k a (omega (arith, length-drop s d))) in
+    let g : drop (length v) a ≡ drop (length v) (take k a) ++ drop k a = rw take-append-drop at (drop-append-le (length v) (take k a) (drop k a) f) in
+    record { end = refl; output = rw (q, append-assoc, g) }
+
+-- what was stored at the place before is not seen
+pub puts-again : {w d : List ℕ} {at r : ℕ} {e : List ℕ} (b : ℕ) → 0 < length w → Puts w (set d at b) at r e → Puts w d at r e
+puts-again {w} {d} {at} b h p = record {
+  end = p .end;
+  output = p .output ∙ rw (drop-drop, take-set-le at d at b (omega arith), drop-set-lt (at + length w) d at b (omega arith), drop-drop);
+}
+
+module _ {w d : List ℕ} {at r : ℕ} {m : List ℕ} (p : Puts w d at r m) (h : at ≤ length d) where
+  front : length (take at d ++ w) ≡ r
+  front = omega (arith, length-append (take at d) w, length-take-le at d h, p .end)
+
+  joint : m ≡ (take at d ++ w) ++ drop (length w) (drop at d)
+  joint = p .output ∙ sym (append-assoc (take at d) w (drop (length w) (drop at d)))
+
+  -- one part behind another
+  pub puts-then : {v e : List ℕ} {k : ℕ} → Puts v m r k e → Puts (w ++ v) d at k e
+  puts-then {v} q = record {
+    end = omega (arith, p .end, q .end, length-append w v);
+    output = q .output ∙ rw (joint, ← front, take-append-seam, drop-append-seam, length-append w v, drop-drop, append-assoc, append-assoc);
+  }
+
+  -- nothing is longer than it was
+  pub puts-long : at + length w ≤ length d → length m ≡ length d
+  puts-long l =
+      omega (arith, simp length-append at (ap length (p .output)), length-take-le at d h, length-drop (length w) (drop at d), length-drop at d)

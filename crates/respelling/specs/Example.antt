@@ -8,7 +8,8 @@ use Rattle.sentence.specs.Sentence.{textOf, marksOf, rowsOf, onto, cut, pad}
 use Rattle.sentence.specs.Reading.{kind, ordinary, inside, opening, step, advance, unfinished, ending, finish, push, follow, run, before, add, gather, built, placed, read}
 use Rattle.sentence.specs.Writing.{tokens, escapeAs, escape, writeTags, writeToken, joined, sign, shown, writePartial, line}
 use Rattle.sentence.specs.Refusals.{verdict, hostOrder}
-use Rattle.convert.specs.Convert.{formOf, unknownForms, between, outOfRange, conversion}
+use Rattle.passage.specs.Between.{formOf, between}
+use Rattle.convert.specs.Convert.{unknownForms, outOfRange, conversion}
 use Rattle.respelling.specs.Decimal.{digits, decimal}
 use Rattle.respelling.specs.Respell.{letter, outcome, printed, lines, answers, respell}
 use Rattle.respelling.specs.Respell.{before as Respell·before}

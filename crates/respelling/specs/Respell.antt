@@ -5,7 +5,8 @@ use lib.Dec.{eqb}
 use Rattle.laws.specs.If.{if_then_else_}
 use Rattle.sentence.specs.declared.Refusal.{Refusal}
 use Rattle.sentence.specs.Refusals.{refusal}
-use Rattle.convert.specs.Convert.{Outcome, writes, refuses, conversion}
+use Rattle.passage.specs.Between.{Outcome, writes, refuses}
+use Rattle.convert.specs.Convert.{conversion}
 use Rattle.respelling.specs.Decimal.{decimal}
 
 -- the number of a letter's form: R raw, T tokenized, P partial; 3 is no form

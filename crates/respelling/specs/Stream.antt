@@ -1,5 +1,5 @@
 -- The program on an input that comes in pieces: what is done with a piece, and what is printed from there on.
-use Prim.Native.Nat.{ℕ, zero, suc, _+_, _-_}
+use Prim.Native.Nat.{ℕ, zero, suc, _+_, _-_, _≤_}
 use mathlib.Core.Path.{_≡_}
 use mathlib.Core.Bool.{Bool, true, false, _&&_}
 use mathlib.Core.List.{List, [], _∷_, _++_}
@@ -7,6 +7,7 @@ use lib.Dec.{eqb, ltb}
 use lib.ListN.{length, take, drop}
 use Rattle.laws.specs.If.{if_then_else_}
 use Rattle.laws.specs.Put.{over}
+use Rattle.respelling.specs.Puts.{Puts}
 use Rattle.respelling.specs.Respell.{answer, respell}
 use Rattle.respelling.specs.declared.Turn.{Turn}
 
@@ -33,16 +34,24 @@ pub record Done : Type 0 where
 abbrev pub done : ℕ → List ℕ → Bool → Done
 done u p k = record { used = u; prints = p; skips = k }
 
--- One step on a piece, the last or not, with so much room. The rest of a skipped line is used. A line is answered where its LF is there, where
--- the input ends, or where it is longer than 4,098 bytes; it waits for its end otherwise, and where there is no room for the longest answer.
-unfoldable pub step : Bool → Bool → ℕ → List ℕ → Done
-step last skip room s =
-    if skip then if ltb (lineLen s) (length s) then done (lineLen s + 1) [] false else done (length s) [] true
-    else if ltb room 8194 then done 0 [] false
-    else if ltb (lineLen s) (length s) then done (lineLen s + 1) (answer (take (lineLen s) s)) false
-    else if last && ltb 0 (length s) then done (length s) (answer s) false
+-- the rest of a line that has had its answer
+unfoldable pub skipped : List ℕ → Done
+skipped s = if ltb (lineLen s) (length s) then done (lineLen s + 1) [] false else done (length s) [] true
+
+-- a line of which no LF is there has its answer where the input ends, or where it is longer than 4,098 bytes; it waits otherwise
+unfoldable pub opened : Bool → List ℕ → Done
+opened last s =
+    if last && ltb 0 (length s) then done (length s) (answer s) false
     else if ltb 4098 (length s) then done (length s) (answer s) true
     else done 0 [] false
+
+-- one step on a piece, the last or not, with so much room; it waits where there is none for the longest answer
+unfoldable pub step : Bool → Bool → ℕ → List ℕ → Done
+step last skip room s =
+    if skip then skipped s
+    else if ltb room 8194 then done 0 [] false
+    else if ltb (lineLen s) (length s) then done (lineLen s + 1) (answer (take (lineLen s) s)) false
+    else opened last s
 
 -- one thing done after another
 unfoldable pub andThen : Done → Done → Done
@@ -63,3 +72,10 @@ turn last skip room s = steps (suc (length s)) last skip room s
 pub record Turned (d : Done) (out : List ℕ) (r : Turn) (out′ : List ℕ) : Type 0 where
   pub answer-is : r ≡ record { used = d .used; wrote = length (d .prints); skip = d .skips }
   pub output-is : out′ ≡ over (d .prints) out
+
+-- the same of one step, whose bytes go behind a place, and end where the answer's do
+pub record Stepped (d : Done) (out : List ℕ) (at : ℕ) (r : Turn) (out′ : List ℕ) : Type 0 where
+  pub used-is : r .used ≡ d .used
+  pub skip-is : r .skip ≡ d .skips
+  pub puts : Puts (d .prints) out at (r .wrote) out′
+  pub fits : r .wrote ≤ length out

@@ -10,10 +10,11 @@ use lib.ListN.{length, take, drop, length-append, length-drop}
 use lib.Seq.{drop-length, drop-drop}
 use Rattle.laws.specs.If.{if_then_else_, if-true, if-false, if-cases}
 use Rattle.sentence.specs.Reading.{Form, refused, read}
-use Rattle.convert.specs.Convert.{between, conversion}
+use Rattle.passage.specs.Between.{between}
+use Rattle.convert.specs.Convert.{conversion}
 use Rattle.respelling.specs.declared.Turn.{Turn}
 use Rattle.respelling.specs.Respell.{outcome, answer, lines, answers, respell}
-use Rattle.respelling.specs.Stream.{lineLen, pastLine, from, Done, done, step, andThen, steps, turn, Turned}
+use Rattle.respelling.specs.Stream.{lineLen, pastLine, from, Done, done, skipped, opened, step, andThen, steps, turn, Turned}
 use Rattle.respelling.proofs.Lines.{cut-line, past-cut, len-within, past-open, open-line}
 
 -- ---- an overlong line has its answer before its end is there
@@ -51,16 +52,15 @@ abbrev pub Continues : Bool → List ℕ → List ℕ → Done → Type 0
 Continues skip s y d = from skip (s ++ y) ≡ d .prints ++ from (d .skips) (drop (d .used) s ++ y)
 
 module _ (last : Bool) (s y : List ℕ) (end : last ≡ true → y ≡ []) where
-  skip-continues : Continues true s y (if ltb (lineLen s) (length s) then done (lineLen s + 1) [] false else done (length s) [] true)
-  unfolding from
+  skip-continues : Continues true s y (skipped s)
+  unfolding from skipped
   skip-continues =
       if-cases (Continues true s y) (ltb (lineLen s) (length s)) _ _
       (λ e. ap respell (past-cut s y (ltb-true _ _ e)))
       (λ e. rw drop-length (ap respell (past-open s y (ltb-false _ _ e))))
 
-  open-continues : length s ≤ lineLen s
-      → Continues false s y (if last && ltb 0 (length s) then done (length s) (answer s) false else if ltb 4098 (length s) then done (length s) (answer s) true else done 0 [] false)
-  unfolding from
+  open-continues : length s ≤ lineLen s → Continues false s y (opened last s)
+  unfolding from opened
   open-continues h =
       if-cases (Continues false s y) (last && ltb 0 (length s)) _ _
       (λ e. let a = and-eq-true-iff last (ltb 0 (length s)) .0 e in rw drop-length (last-answer s y (end (a .0)) (ltb-true _ _ (a .1)) h))
@@ -111,7 +111,7 @@ module _ (last : Bool) (s : List ℕ) where
   Within d = d .used ≤ length s
 
   pub step-within : (skip : Bool) (room : ℕ) → Within (step last skip room s)
-  unfolding step
+  unfolding step skipped opened
   step-within skip room =
       let n : ℕ = length s in
       if-cases Within skip _ _
@@ -130,7 +130,7 @@ module _ (last : Bool) (s : List ℕ) where
   Stops d = d .used ≡ 0 → Waits
 
   step-waits : (skip : Bool) (room : ℕ) → 8194 ≤ room → Stops (step last skip room s)
-  unfolding step
+  unfolding step skipped opened
   step-waits skip room h =
       let n : ℕ = length s in
       let all : n ≡ 0 → Waits = λ z. record { few = omega arith; more = λ _. z } in
