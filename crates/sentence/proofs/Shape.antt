@@ -11,7 +11,7 @@ use Rattle.laws.specs.If.{if_then_else_}
 use Rattle.laws.specs.All.{All}
 use Rattle.utf8.specs.Utf8.{scalars, validPrefix, scalar, width, size}
 use Rattle.utf8.proofs.Codec.{width-small, length-encodes, encodes-scalars, valid-within, all-scalar}
-use Rattle.sentence.specs.Sentence.{Tag, Mark, none, word, unknown, Cells, final, cell, Sentence, textOf, rowsOf, onto, cut, listed, rowBytes, tagBytes, Char, Row, CellsOf, Formed}
+use Rattle.sentence.specs.Sentence.{Tag, Mark, none, word, unknown, Cells, final, cell, Sentence, textOf, rowsOf, text, rows, onto, cut, listed, rowBytes, tagBytes, Char, Row, CellsOf, Formed}
 use Rattle.sentence.specs.Reading.{Form, raw, tokenized, partial, Kind, mark, slash, back, plain, kinds, look, kind, Place, start, behind, inTag, gap, State, at, escaped, Act, skip, letter, opens, ofTag, Step, go, stop, ordinary, inside, opening, step, advance, Run, whole, stopped, ending, finish, push, follow, run, Rest, over, next, Parsed, parsed, before, add, gather, Result, sentence, refused, built, placed, read}
 use Rattle.sentence.proofs.Trips.{Whole}
 
@@ -376,11 +376,12 @@ ReadIn raw s = Unit {0}
 ReadIn tokenized s = Whole s
 ReadIn partial s = Unit {0}
 
-abbrev Answers : Form → Result → Type 0
-Answers f (sentence s) = Formed s × ReadIn f (s .cells)
-Answers f (refused e p) = Unit {0}
+-- and no more bytes and listed tags than the line, of k bytes
+abbrev Answers : Form → ℕ → Result → Type 0
+Answers f k (sentence s) = Formed s × ReadIn f (s .cells) × (load (s .cells) ≤ k)
+Answers f k (refused e p) = Unit {0}
 
-rest-answers : (f : Form) (x : List ℕ) (t : Tag) (ts : List Tag) (n : ℕ) (r : Rest) → size x ≤ 4096 → Good x t ts n r → (f ≡ tokenized → Begun r) → Answers f (built (parsed t ts n r))
+rest-answers : (f : Form) (x : List ℕ) (t : Tag) (ts : List Tag) (n : ℕ) (r : Rest) → size x ≤ 4096 → Good x t ts n r → (f ≡ tokenized → Begun r) → Answers f (size x) (built (parsed t ts n r))
 unfolding built
 rest-answers f x t ts n over le g w = tt
 rest-answers f x t ts n (next m s) le g w = (
@@ -392,6 +393,7 @@ rest-answers f x t ts n (next m s) le g w = (
     bytes-fit = omega (arith, g .light);
   },
   read-in f w,
+  omega (arith, g .light),
 )
   where
     read-in : (f : Form) → (f ≡ tokenized → Whole s) → ReadIn f s
@@ -399,10 +401,10 @@ rest-answers f x t ts n (next m s) le g w = (
     read-in tokenized w = w refl
     read-in partial w = tt
 
-parsed-answers : (f : Form) (x : List ℕ) (p : Parsed) → size x ≤ 4096 → GoodParsed x p → (f ≡ tokenized → ShapedParsed start p) → Answers f (built p)
+parsed-answers : (f : Form) (x : List ℕ) (p : Parsed) → size x ≤ 4096 → GoodParsed x p → (f ≡ tokenized → ShapedParsed start p) → Answers f (size x) (built p)
 parsed-answers f x (parsed t ts n r) le g w = rest-answers f x t ts n r le g w
 
-run-answers : (f : Form) (x : List ℕ) (k : ℕ) (r : Run) → size x ≤ 4096 → Of f GoodAt (at start) x r → (f ≡ tokenized → Of tokenized ShapedAt (at start) x r) → Answers f (placed k r)
+run-answers : (f : Form) (x : List ℕ) (k : ℕ) (r : Run) → size x ≤ 4096 → Of f GoodAt (at start) x r → (f ≡ tokenized → Of tokenized ShapedAt (at start) x r) → Answers f (size x) (placed k r)
 unfolding placed
 run-answers f x k (whole l) le g w = parsed-answers f x (gather l) le g w
 run-answers f x k (stopped e left) le g w = tt
@@ -414,23 +416,27 @@ tokenized-shaped f x h e = rw e (run-shaped x (at start) h)
 scalars-size : (x : List ℕ) → validPrefix x ≡ length x → size (scalars x) ≡ length x
 scalars-size x e = sym (length-encodes (scalars x)) ∙ ap length (encodes-scalars x e)
 
-read-answers : (f : Form) (x : List ℕ) → Answers f (read f x)
+read-answers : (f : Form) (x : List ℕ) → Answers f (length x) (read f x)
 unfolding read if_then_else_
 read-answers f x = long (ltb 4096 (length x)) refl
   where
     bad : (b : Bool) → ltb (validPrefix x) (length x) ≡ b → length x ≤ 4096
-        → Answers f (if b then refused 2 (validPrefix x) else placed (length x) (run f (at start) (scalars x)))
+        → Answers f (length x) (if b then refused 2 (validPrefix x) else placed (length x) (run f (at start) (scalars x)))
     bad true e le = tt
     bad false e le =
         let v : validPrefix x ≡ length x = omega (arith, ltb-false (validPrefix x) (length x) e, valid-within x) in
-        run-answers f (scalars x) (length x) (run f (at start) (scalars x)) (omega (arith, scalars-size x v))
-        (run-good f (scalars x) (at start) (all-scalar x)) (tokenized-shaped f (scalars x) (all-scalar x))
+        rw (scalars-size x v) at (run-answers f (scalars x) (length x) (run f (at start) (scalars x)) (omega (arith, scalars-size x v))
+        (run-good f (scalars x) (at start) (all-scalar x)) (tokenized-shaped f (scalars x) (all-scalar x)))
 
     long : (b : Bool) → ltb 4096 (length x) ≡ b
-        → Answers f (if b then refused 1 4096 else if ltb (validPrefix x) (length x) then refused 2 (validPrefix x) else placed (length x) (run f (at start) (scalars x)))
+        → Answers f (length x) (if b then refused 1 4096 else if ltb (validPrefix x) (length x) then refused 2 (validPrefix x) else placed (length x) (run f (at start) (scalars x)))
     long true e = tt
     long false e = bad (ltb (validPrefix x) (length x)) refl (ltb-false 4096 (length x) e)
 
 -- what a reader answers is well formed and within the limits, and of its form
 pub read-formed : (f : Form) (x : List ℕ) (s : Sentence) → read f x ≡ sentence s → Formed s × ReadIn f (s .cells)
-read-formed f x s e = rw e at (read-answers f x)
+read-formed f x s e = let a = rw e at (read-answers f x) in (a .0, a .1)
+
+-- B + K + G is at most the line's length
+pub read-light : (f : Form) (x : List ℕ) (s : Sentence) → read f x ≡ sentence s → size (text s) + listed (rows s) + tagBytes (rows s) ≤ length x
+read-light f x s e = (rw e at (read-answers f x)) .2

@@ -1,0 +1,62 @@
+// The conversion of a line from one form to another, for programs and for the host.
+use passage::Converted;
+use sentence::Refusal;
+ghost use mathlib.Core.Path.{_≡_};
+ghost use lib.ListN.{length};
+ghost use Rattle.passage.specs.Between.{Converts};
+ghost use Rattle.convert.specs.Convert.{unknownForms, outOfRange, conversion, codeOf};
+
+// Whether a number is no form to read, or no form to write.
+fn unknown_forms(reader: u32, writer: u32) -> bool
+    ensures { λ r. ⌜ r ≡ unknownForms reader writer ⌝ }
+{
+    (2 < reader) | (writer == 0) | (2 < writer)
+}
+
+// Whether an output is too long, or a place lies past its end.
+fn out_of_range(size: usize, at: usize) -> bool
+    ensures { λ r. ⌜ r ≡ outOfRange size at ⌝ }
+{
+    (1048576 < size) | (size < at)
+}
+
+// Reads a line in the form `reader` (0 raw, 1 tokenized, 2 partial) and writes it in the form `writer` (1 or 2) into the output, behind the bytes
+// before `at`.
+pub fn convert(reader: u32, writer: u32, line: &[u8], out: &mut [u8], at: usize) -> Converted
+    ensures { λ r. ⌜ Converts (λ (c : Converted). c) (conversion reader writer (now (line .entry)) (length (now (out .entry))) at) at (now (out .entry)) r (now (out .exit)) ⌝ }
+{
+    if unknown_forms(reader, writer) {
+        return Converted::Refused(Refusal {
+            number: 16,
+            place: 0,
+        });
+    }
+    if out_of_range(out.len(), at) {
+        return Converted::Refused(Refusal {
+            number: 14,
+            place: 0,
+        });
+    }
+    match passage::given::between(reader, writer, line, &mut out[at..]) {
+        Converted::Wrote(n) => Converted::Wrote(at + n),
+        Converted::Refused(r) => Converted::Refused(r),
+    }
+}
+
+// The conversion for a host in another language: the answer as one number. Where the line is written it is the end place; else it is 2^63 plus 256
+// times the refusal's place plus its number.
+#[no_mangle]
+pub extern "C" fn ighdelmur_convert(
+    reader: u32,
+    writer: u32,
+    line: &[u8],
+    out: &mut [u8],
+    at: usize,
+) -> u64
+    ensures { λ r. ⌜ Converts codeOf (conversion reader writer (now (line .entry)) (length (now (out .entry))) at) at (now (out .entry)) r (now (out .exit)) ⌝ }
+{
+    match convert(reader, writer, line, out, at) {
+        Converted::Wrote(e) => e as u64,
+        Converted::Refused(r) => 9223372036854775808 + 256 * r.place as u64 + r.number as u64,
+    }
+}

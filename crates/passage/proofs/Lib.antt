@@ -1,0 +1,4 @@
+pub mod Outcomes
+pub mod Rooms
+pub mod Passed
+pub mod Written

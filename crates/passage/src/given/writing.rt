@@ -1,0 +1,155 @@
+// A sentence written from the buffers that hold it, where the output has room for its line.
+use crate::Converted;
+use partial::given::partial_into;
+use partial::given::partial_len;
+use sentence::Refusal;
+use sheet::Record;
+use tokenized::given::tokenized_into;
+use tokenized::given::tokenized_len;
+ghost use mathlib.Core.Path.{_≡_};
+ghost use lib.ListN.{length};
+ghost use Rattle.sentence.specs.Reading.{tokenized, partial};
+ghost use Rattle.sheet.specs.Layout.{buffers, spell, Sheet};
+ghost use Rattle.passage.specs.Between.{formOf, Converts};
+ghost use Rattle.passage.specs.Through.{writing};
+
+// The tokenized line.
+fn tokenized_as(
+    r: Record,
+    text: &[u8],
+    types: &[u8],
+    boundaries: &[u8],
+    char_pos: &[u16],
+    byte_pos: &[u16],
+    row_ends: &[u16],
+    tag_ends: &[u16],
+    tag_bytes: &[u8],
+    out: &mut [u8],
+) -> Converted
+    requires { ⌜ Sheet r (buffers (now text) (now types) (now boundaries) (now «char_pos») (now «byte_pos») (now «row_ends») (now «tag_ends») (now «tag_bytes»)) ⌝ }
+    ensures { λ a. ⌜ Converts (λ (c : Converted). c) (writing tokenized (length (now (out .entry))) (spell r (buffers (now (text .entry)) (now (types .entry)) (now (boundaries .entry)) (now («char_pos» .entry)) (now («byte_pos» .entry)) (now («row_ends» .entry)) (now («tag_ends» .entry)) (now («tag_bytes» .entry))))) 0 (now (out .entry)) a (now (out .exit)) ⌝ }
+{
+    let needed = tokenized_len(
+        r,
+        text,
+        types,
+        boundaries,
+        char_pos,
+        byte_pos,
+        row_ends,
+        tag_ends,
+        tag_bytes,
+    );
+    if out.len() < needed {
+        return Converted::Refused(Refusal {
+            number: 12,
+            place: needed,
+        });
+    }
+    let n = tokenized_into(
+        r,
+        text,
+        types,
+        boundaries,
+        char_pos,
+        byte_pos,
+        row_ends,
+        tag_ends,
+        tag_bytes,
+        out,
+    );
+    Converted::Wrote(n)
+}
+
+// The partial line.
+fn partial_as(
+    r: Record,
+    text: &[u8],
+    types: &[u8],
+    boundaries: &[u8],
+    char_pos: &[u16],
+    byte_pos: &[u16],
+    row_ends: &[u16],
+    tag_ends: &[u16],
+    tag_bytes: &[u8],
+    out: &mut [u8],
+) -> Converted
+    requires { ⌜ Sheet r (buffers (now text) (now types) (now boundaries) (now «char_pos») (now «byte_pos») (now «row_ends») (now «tag_ends») (now «tag_bytes»)) ⌝ }
+    ensures { λ a. ⌜ Converts (λ (c : Converted). c) (writing partial (length (now (out .entry))) (spell r (buffers (now (text .entry)) (now (types .entry)) (now (boundaries .entry)) (now («char_pos» .entry)) (now («byte_pos» .entry)) (now («row_ends» .entry)) (now («tag_ends» .entry)) (now («tag_bytes» .entry))))) 0 (now (out .entry)) a (now (out .exit)) ⌝ }
+{
+    let needed = partial_len(
+        r,
+        text,
+        types,
+        boundaries,
+        char_pos,
+        byte_pos,
+        row_ends,
+        tag_ends,
+        tag_bytes,
+    );
+    if out.len() < needed {
+        return Converted::Refused(Refusal {
+            number: 12,
+            place: needed,
+        });
+    }
+    let n = partial_into(
+        r,
+        text,
+        types,
+        boundaries,
+        char_pos,
+        byte_pos,
+        row_ends,
+        tag_ends,
+        tag_bytes,
+        out,
+    );
+    Converted::Wrote(n)
+}
+
+// Writes a sentence in one of the two annotated forms.
+pub fn write_as(
+    writer: u32,
+    r: Record,
+    text: &[u8],
+    types: &[u8],
+    boundaries: &[u8],
+    char_pos: &[u16],
+    byte_pos: &[u16],
+    row_ends: &[u16],
+    tag_ends: &[u16],
+    tag_bytes: &[u8],
+    out: &mut [u8],
+) -> Converted
+    requires { ⌜ (writer ≡ 0 → ⊥) × Sheet r (buffers (now text) (now types) (now boundaries) (now «char_pos») (now «byte_pos») (now «row_ends») (now «tag_ends») (now «tag_bytes»)) ⌝ }
+    ensures { λ a. ⌜ Converts (λ (c : Converted). c) (writing (formOf writer) (length (now (out .entry))) (spell r (buffers (now (text .entry)) (now (types .entry)) (now (boundaries .entry)) (now («char_pos» .entry)) (now («byte_pos» .entry)) (now («row_ends» .entry)) (now («tag_ends» .entry)) (now («tag_bytes» .entry))))) 0 (now (out .entry)) a (now (out .exit)) ⌝ }
+{
+    if writer == 1 {
+        return tokenized_as(
+            r,
+            text,
+            types,
+            boundaries,
+            char_pos,
+            byte_pos,
+            row_ends,
+            tag_ends,
+            tag_bytes,
+            out,
+        );
+    }
+    partial_as(
+        r,
+        text,
+        types,
+        boundaries,
+        char_pos,
+        byte_pos,
+        row_ends,
+        tag_ends,
+        tag_bytes,
+        out,
+    )
+}

@@ -1,0 +1,9 @@
+pub mod Puts
+pub mod Digits
+pub mod Answers
+pub mod Keeps
+pub mod Lines
+pub mod Scan
+pub mod Steps
+pub mod Pieces
+pub mod Turns

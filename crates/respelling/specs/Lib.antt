@@ -1,0 +1,5 @@
+pub mod Puts
+pub mod Decimal
+pub mod Respell
+pub mod Stream
+pub mod Example

@@ -1,0 +1,46 @@
+-- The program: its answer to a line, and to a whole input.
+use Prim.Native.Nat.{ℕ}
+use mathlib.Core.List.{List, [], _∷_, _++_}
+use lib.Dec.{eqb}
+use Rattle.laws.specs.If.{if_then_else_}
+use Rattle.sentence.specs.declared.Refusal.{Refusal}
+use Rattle.sentence.specs.Refusals.{refusal}
+use Rattle.passage.specs.Between.{Outcome, writes, refuses}
+use Rattle.convert.specs.Convert.{conversion}
+use Rattle.respelling.specs.Decimal.{decimal}
+
+-- the number of a letter's form: R raw, T tokenized, P partial; 3 is no form
+unfoldable pub letter : ℕ → ℕ
+letter b = if eqb b 82 then 0 else if eqb b 84 then 1 else if eqb b 80 then 2 else 3
+
+-- what is made of an input line: a reader's letter, a writer's letter, the sentence line; 8,192 bytes are the room for the written line
+unfoldable pub outcome : List ℕ → Outcome
+outcome [] = refuses (refusal 16 0)
+outcome (a ∷ []) = refuses (refusal 16 0)
+outcome (a ∷ b ∷ x) = conversion (letter a) (letter b) x 8192 0
+
+-- how it is printed: `=` and the written line, or `!`, number, space and place; then LF
+unfoldable pub printed : Outcome → List ℕ
+printed (writes w) = 61 ∷ (w ++ (10 ∷ []))
+printed (refuses r) = 33 ∷ (decimal (r .number) ++ (32 ∷ (decimal (r .place) ++ (10 ∷ []))))
+
+abbrev pub answer : List ℕ → List ℕ
+answer l = printed (outcome l)
+
+-- a byte before the first of the lines
+unfoldable pub before : ℕ → List (List ℕ) → List (List ℕ)
+before b [] = (b ∷ []) ∷ []
+before b (l ∷ ls) = (b ∷ l) ∷ ls
+
+-- the lines of an input, each ended by LF or by the end; a last LF starts no further line
+unfoldable pub lines : List ℕ → List (List ℕ)
+lines [] = []
+lines (b ∷ s) = if eqb b 10 then [] ∷ lines s else before b (lines s)
+
+unfoldable pub answers : List (List ℕ) → List ℕ
+answers [] = []
+answers (l ∷ ls) = answer l ++ answers ls
+
+-- all that is printed for an input
+unfoldable pub respell : List ℕ → List ℕ
+respell s = answers (lines s)
