@@ -64,13 +64,16 @@ read-to (sentence s) r d e h = on (lacks d s) refl (h .answer-is) (h .buffers-ar
     on true q a b = refuses a
     on false q a b = serves q a b
 
+-- what it left holds that sentence
+held : (f : Form) (x : List ℕ) (s : Sentence) (r : Record) (d e : Buffers) → read f x ≡ sentence s → r ≡ recordOf s → roomFor (recordOf s) d ≡ true → e ≡ laid s d → Holds r e s
+held f x s r d e p a b c = rw (a, c) (laid-holds s d (read-formed f x s p .0) b)
+
 -- a line that was read and written means a sentence
 means : (f g : Form) (x w : List ℕ) → Respelt f g x w → Means f g x w
 means f g x w h =
     let q = read-to (read f x) (h .the-record) (h .buffers-before) (h .buffers-after) (h .reads) in
     let t = took (h .writes) refl in
-    let k : Holds (h .the-record) (h .buffers-after) (q .s) =
-        rw (q .the-record, q .left) (laid-holds (q .s) (h .buffers-before) (read-formed f x (q .s) (q .is) .0) (q .room)) in
+    let k = held f x (q .s) (h .the-record) (h .buffers-before) (h .buffers-after) (q .is) (q .the-record) (q .room) (q .left) in
     record {
       s = q .s;
       reads-to = q .is;
