@@ -25,13 +25,15 @@ fn out_of_range(size: usize, at: usize) -> bool
 pub fn convert(reader: u32, writer: u32, line: &[u8], out: &mut [u8], at: usize) -> Converted
     ensures { λ r. ⌜ Converts (λ (c : Converted). c) (conversion reader writer (now (line .entry)) (length (now (out .entry))) at) at (now (out .entry)) r (now (out .exit)) ⌝ }
 {
-    if unknown_forms(reader, writer) {
+    let unknown = unknown_forms(reader, writer);
+    let outside = out_of_range(out.len(), at);
+    if unknown {
         return Converted::Refused(Refusal {
             number: 16,
             place: 0,
         });
     }
-    if out_of_range(out.len(), at) {
+    if outside {
         return Converted::Refused(Refusal {
             number: 14,
             place: 0,

@@ -11,12 +11,10 @@ use borrow.Author.Tests.{not-false}
 use Rattle.laws.specs.If.{if_then_else_}
 use Rattle.laws.specs.Put.{over}
 use Rattle.sentence.specs.Sentence.{Sentence}
-use Rattle.sentence.specs.Reading.{Form, raw, tokenized, partial, Result, sentence, refused, read}
+use Rattle.sentence.specs.Reading.{Form, Annotated, raw, tokenized, partial, Result, sentence, refused, read}
 use Rattle.sentence.specs.Writing.{written}
 use Rattle.sentence.specs.Refusals.{check, verdict, readerOrder}
 use Rattle.sentence.proofs.Shape.{read-formed}
-use Rattle.sentence.proofs.Demand3.{Agree}
-use Rattle.sentence.proofs.Runs.{Annotated}
 use Rattle.sentence.proofs.Demand3 as definitions
 use Rattle.sheet.specs.declared.Record.{Record}
 use Rattle.sheet.specs.declared.Answer.{Answer}
@@ -97,15 +95,15 @@ back f an x u h le =
 pub demand-3 : Demand3
 demand-3 = record {
   canonical = λ f an x y u v s t p q a b.
-    let d = definitions.canonical f an x y s t p q in
-    let i = spells f f x u s p a in
-    let j = spells f f y v t q b in (λ e. d .0 (sym i ∙ e ∙ j), λ g. i ∙ d .1 g ∙ sym j);
+      let d = definitions.canonical f an x y s t p q in
+      let i = spells f f x u s p a in
+      let j = spells f f y v t q b in (λ e. d .0 (sym i ∙ e ∙ j), λ g. i ∙ d .1 g ∙ sym j);
   reads-back = back;
   writes-itself = λ f an x u w a le b.
-    let m = means f f x u a in
-    spells f f u w (m .s) (back f an x u a le ∙ m .reads-to) b ∙ sym (m .line-is);
+      let m = means f f x u a in
+      spells f f u w (m .s) (back f an x u a le ∙ m .reads-to) b ∙ sym (m .line-is);
   survives = λ x u s p a le.
-    let i = spells partial tokenized x u s p a in
-    let d = definitions.survives x s p (subst (λ (w : List ℕ). length w ≤ 4096) i le) in
-    (λ e. d .0 (ap (read tokenized) (sym i) ∙ e), λ g. ap (read tokenized) i ∙ d .1 g);
+      let i = spells partial tokenized x u s p a in
+      let d = definitions.survives x s p (subst (λ (w : List ℕ). length w ≤ 4096) i le) in
+      (λ e. d .0 (ap (read tokenized) (sym i) ∙ e), λ g. ap (read tokenized) i ∙ d .1 g);
 }

@@ -4,10 +4,8 @@ use mathlib.Core.Path.{_≡_}
 use mathlib.Core.Logic.{_↔_}
 use mathlib.Core.List.{List}
 use lib.ListN.{length, take}
-use Rattle.sentence.specs.Sentence.{Sentence, NoUnknown, NoneInside}
-use Rattle.sentence.proofs.Demand3.{Agree}
-use Rattle.sentence.proofs.Runs.{Annotated}
-use Rattle.sentence.specs.Reading.{Form, tokenized, partial, sentence, read}
+use Rattle.sentence.specs.Sentence.{Sentence, Agree, NoUnknown, NoneInside}
+use Rattle.sentence.specs.Reading.{Form, Annotated, tokenized, partial, sentence, read}
 use Rattle.sheet.specs.declared.Record.{Record}
 use Rattle.sheet.specs.declared.Answer.the-variants as answer
 use Rattle.sheet.specs.declared.Number.the-variants as number

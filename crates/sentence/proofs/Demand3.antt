@@ -12,23 +12,16 @@ use Rattle.laws.specs.If.{if_then_else_, if-false}
 use Rattle.laws.specs.All.{All, All-append}
 use Rattle.utf8.specs.Utf8.{scalars, validPrefix, scalar, encodes, size}
 use Rattle.utf8.proofs.Codec.{scalars-encodes, valid-encodes}
-use Rattle.sentence.specs.Sentence.{Tag, Mark, none, word, unknown, Cells, final, cell, Sentence, textOf, marksOf, rowsOf, text, marks, rows, table, onto, cut, pad, Char, Row, CellsOf, Formed, NoUnknown, NoneInside}
-use Rattle.sentence.specs.Reading.{Form, raw, tokenized, partial, Kind, mark, slash, back, plain, kind, at, start, Run, whole, stopped, run, Rest, over, next, Parsed, parsed, gather, Result, sentence, refused, built, placed, read}
+use Rattle.sentence.specs.Sentence.{Tag, Mark, none, word, unknown, Cells, final, cell, Sentence, textOf, marksOf, rowsOf, text, marks, rows, table, onto, cut, pad, Char, Row, CellsOf, Formed, Agree, NoUnknown, NoneInside}
+use Rattle.sentence.specs.Reading.{Form, Annotated, raw, tokenized, partial, Kind, mark, slash, back, plain, kind, at, start, Run, whole, stopped, run, Rest, over, next, Parsed, parsed, gather, Result, sentence, refused, built, placed, read}
 use Rattle.sentence.specs.Writing.{escapeAs, escape, writeTags, sign, shown, writePartial, line, written}
-use Rattle.sentence.proofs.Runs.{Annotated, Got, got, bad, gathered, reads}
+use Rattle.sentence.proofs.Runs.{Got, got, bad, gathered, reads}
 use Rattle.sentence.proofs.Trips.{cut-pad, pad-shows, shown-shows, Whole, plainly, line-plainly, Fits, reads-line}
 use Rattle.sentence.proofs.Shape.{ReadIn, read-formed}
 
 -- ---- the padded table and the listed rows determine each other
 pub pad-same : (n : ℕ) (r q : List Tag) → Row n r → Row n q → pad n r ≡ pad n q → r ≡ q
 pad-same n r q h k e = sym (cut-pad n r ∙ h .is-cut) ∙ ap cut e ∙ cut-pad n q ∙ k .is-cut
-
--- text, boundaries, column count and padded tags agree
-pub record Agree (s t : Sentence) : Type 0 where
-  pub texts : text s ≡ text t
-  pub boundaries : marks s ≡ marks t
-  pub column-counts : s .columns ≡ t .columns
-  pub padded-tags : table s ≡ table t
 
 agree-cells : (n : ℕ) (s t : Cells) → CellsOf n s → CellsOf n t → textOf s ≡ textOf t → marksOf s ≡ marksOf t → map (pad n) (rowsOf s) ≡ map (pad n) (rowsOf t) → s ≡ t
 unfolding textOf marksOf rowsOf

@@ -9,7 +9,7 @@ use Rattle.laws.specs.If.{if_then_else_}
 use Rattle.laws.specs.All.{All}
 use Rattle.utf8.specs.Utf8.{size}
 use Rattle.sentence.specs.Sentence.{Tag, Mark, none, word, unknown, Char}
-use Rattle.sentence.specs.Reading.{Form, raw, tokenized, partial, Kind, mark, slash, back, plain, kind, Place, start, behind, inTag, gap, State, at, escaped, Act, skip, letter, opens, ofTag, Step, go, stop, ordinary, inside, opening, step, advance, Run, whole, stopped, ending, finish, push, follow, run, Rest, over, next, Parsed, parsed, before, add, gather}
+use Rattle.sentence.specs.Reading.{Form, Annotated, raw, tokenized, partial, Kind, mark, slash, back, plain, kind, Place, start, behind, inTag, gap, State, at, escaped, Act, skip, letter, opens, ofTag, Step, go, stop, ordinary, inside, opening, step, advance, Run, whole, stopped, ending, finish, push, follow, run, Rest, over, next, Parsed, parsed, before, add, gather}
 use Rattle.sentence.specs.Writing.{escapeAs, escape, writeTags}
 
 -- what the acts of a run gather, or its refusal
@@ -37,12 +37,6 @@ adds-skip : (g : Got) → adds skip g ≡ g
 unfolding adds add
 adds-skip (got p) = refl
 adds-skip (bad e left) = refl
-
--- the two forms that have boundaries, tags and escapes
-abbrev pub Annotated : Form → Type 0
-Annotated raw = ⊥
-Annotated tokenized = Unit {0}
-Annotated partial = Unit {0}
 
 kind-back : (f : Form) → Annotated f → kind f 92 ≡ back
 unfolding kind if_then_else_

@@ -10,9 +10,9 @@ use lib.Seq.{take-at, drop-at, drop-drop, getD-drop}
 use Rattle.laws.specs.If.{if_then_else_}
 use Rattle.laws.specs.All.{All, All-append}
 use Rattle.sentence.specs.Sentence.{Tag, Mark, none, word, unknown, Cells, final, cell, Sentence, textOf, marksOf, rowsOf, text, marks, rows, onto, cut, pad, Char, Row, CellsOf}
-use Rattle.sentence.specs.Reading.{Form, raw, tokenized, partial, Kind, mark, slash, back, plain, kind, Place, start, behind, inTag, gap, State, at, escaped, Act, skip, letter, Step, go, ordinary, inside, opening, step, Rest, over, next, Parsed, parsed, before, add}
+use Rattle.sentence.specs.Reading.{Form, Annotated, raw, tokenized, partial, Kind, mark, slash, back, plain, kind, Place, start, behind, inTag, gap, State, at, escaped, Act, skip, letter, Step, go, ordinary, inside, opening, step, Rest, over, next, Parsed, parsed, before, add}
 use Rattle.sentence.specs.Writing.{Token, token, tokens, tokensFrom, surface, escapeAs, escape, writeTags, writeToken, joined, sign, shown, writePartial, line}
-use Rattle.sentence.proofs.Runs.{Got, got, adds, reads, reads-go, reads-char, Annotated, Follows, reads-tags, follows-mark, follows-end}
+use Rattle.sentence.proofs.Runs.{Got, got, adds, reads, reads-go, reads-char, Follows, reads-tags, follows-mark, follows-end}
 
 -- ---- rows and what is written of them
 all-absent : (k : ℕ) → All (All Char) (replicate k [])

@@ -11,6 +11,12 @@ use Rattle.sentence.specs.Sentence.{Tag, Mark, none, word, unknown, Cell
 pub data Form : Type 0 where
   raw tokenized partial : Form
 
+-- the two forms that have boundaries, tags and escapes
+abbrev pub Annotated : Form → Type 0
+Annotated raw = ⊥
+Annotated tokenized = Unit {0}
+Annotated partial = Unit {0}
+
 -- what a character means where it is not escaped: a boundary, the slash, the backslash, or itself
 pub data Kind : Type 0 where
   mark : Mark → Kind

@@ -135,6 +135,13 @@ pub record Formed (s : Sentence) : Type 0 where
   pub tags-fit : listed (rows s) ≤ 65535
   pub bytes-fit : tagBytes (rows s) ≤ 65535
 
+-- text, boundaries, column count and padded tags agree
+pub record Agree (s t : Sentence) : Type 0 where
+  pub texts : text s ≡ text t
+  pub boundaries : marks s ≡ marks t
+  pub column-counts : s .columns ≡ t .columns
+  pub padded-tags : table s ≡ table t
+
 -- no boundary is unknown
 abbrev pub NoUnknown : Sentence → Type 0
 NoUnknown s = All (λ m. m ≡ unknown → ⊥) (marks s)

@@ -10,11 +10,11 @@ use Rattle.convert.proofs.convert.Tie as tie
 unknown-forms-requires : tie.Need-unknown-forms-requires
 unknown-forms-requires c κs = search needs
 
-returns : tie.Need-returns
-returns c = search unknown
-
 out-of-range-requires : tie.Need-out-of-range-requires
 out-of-range-requires c κs = search needs
+
+returns : tie.Need-returns
+returns c = search unknown
 
 returns-2 : tie.Need-returns-2
 returns-2 c = search outside
@@ -37,8 +37,8 @@ enum-known-n c = search needs
 fits : (c : tie.After-known-told) → c .before .before .before .before .before .before .before .before .before .before .before .before .before .args .at + c .before .n .given .0 .0 ≤ length (c .before .before .before .before .before .before .before .before .before .before .before .before .before .args .out .now)
 fits c = search few
 
-add-t18 : tie.Need-add-t18
-add-t18 c = omega (arith, fits c)
+add-t19 : tie.Need-add-t19
+add-t19 c = omega (arith, fits c)
 
 enum-known-r : tie.Need-enum-known-r
 enum-known-r c = search needs
@@ -60,15 +60,15 @@ convert-spec =
     tie.close
     (tie.spec
     unknown-forms-requires
-    returns
     out-of-range-requires
+    returns
     returns-2
     sub-between
     part-between-start
     part-between-end
     between-requires
     enum-known-n
-    add-t18
+    add-t19
     enum-known-r
     same-length
     returns-3
