@@ -28,6 +28,18 @@ examples() {
         grep -q '^test result: ok\. [1-9]' "$log"
 }
 
+# The program `respell` beside the oracle, on generated lines.
+respelled() {
+    if ! command -v rt >/dev/null; then
+        echo 'host: not run, for rt is not at hand: respell beside the oracle'
+    elif ! command -v python3 >/dev/null; then
+        echo 'host: not run, for there is no python3 here: respell beside the oracle'
+    else
+        check 'respell accepts and writes as the oracle on generated lines' \
+            python3 "$here/respelled.py" "$out/oracle" bash "$here/../respell.sh" && sed 's/^/    /' "$log"
+    fi
+}
+
 # The original and the port in one program.
 linked() {
     if ! [ -d "$here/../crates/exports" ]; then
@@ -51,6 +63,7 @@ elif check 'the original, unchanged, compiles beside the stand-ins' "$here/build
     check "the original's own examples" examples
     check "the oracle's tests" "$out/oracle_tests"
     check 'the recorded lists, made again, show no difference' "$here/record.sh" --check
+    respelled
     linked
 fi
 echo "$passed passed, $failed failed"
