@@ -64,14 +64,14 @@ same : {n n′ b b′ c c′ k k′ g g′ : ℕ} → n ≡ n′ → b ≡ b′ 
 same p q r s t = cc
 
 -- where another tag opens
-opening-still : (o : Open) (gaps : ℕ) (t : Tag) (ts : List Tag) → ends o + still Empty (passes o gaps) t ts ≡ still o gaps [] (t ∷ ts)
+pub opening-still : (o : Open) (gaps : ℕ) (t : Tag) (ts : List Tag) → ends o + still Empty (passes o gaps) t ts ≡ still o gaps [] (t ∷ ts)
 unfolding ends passes still
 opening-still No gaps t ts = omega (arith, grow-none (length (cut (t ∷ ts))))
 opening-still Empty gaps t ts = omega (arith, grow-more gaps (t ∷ ts))
 opening-still Present gaps t ts = omega (arith, grow-none (length (cut (t ∷ ts))))
 
 -- where a row is over
-ended-still : (o : Open) (gaps : ℕ) → still o gaps [] [] ≡ ends o
+pub ended-still : (o : Open) (gaps : ℕ) → still o gaps [] [] ≡ ends o
 unfolding ends still cut onto grow
 ended-still No gaps = refl
 ended-still Empty gaps = refl
@@ -96,7 +96,7 @@ opening-total k t ts n r =
     same refl refl (omega arith) (omega (arith, opening-still (k .tag) (k .gaps) t ts)) (omega (arith, no-bytes (k .tag)))
 
 -- the first character of an empty tag makes it present
-grow-char : (e c : ℕ) (t : Tag) (ts : List Tag) → grow e (length (cut ((c ∷ t) ∷ ts))) ≡ e + (length (cut ts) + 1)
+pub grow-char : (e c : ℕ) (t : Tag) (ts : List Tag) → grow e (length (cut ((c ∷ t) ∷ ts))) ≡ e + (length (cut ts) + 1)
 unfolding cut grow onto
 grow-char e c t ts = on (cut ts)
   where

@@ -1,6 +1,7 @@
 // The state of a reader, stepped by value over the characters of a line.
 ghost use mathlib.Core.Path.{_≡_};
 ghost use mathlib.Core.Bool.{true, false};
+ghost use Rattle.sentence.specs.Sentence.{code};
 ghost use Rattle.sentence.specs.Reading.{tokenized, partial, mark, slash, back, at, escaped, start, behind, inTag, go, letter, kind, ordinary, step, advance, unfinished, finish};
 ghost use Rattle.reader.specs.Flags.{formOf, markOf, placeOf, stateOf, flags, kindIn, stepped, ended, awaits, literal};
 
@@ -52,6 +53,19 @@ pub enum Stepped {
 pub enum Ended {
     Whole,
     Refuse(u8),
+}
+
+impl Mark {
+    // Its number: 0 none, 1 word, 2 unknown.
+    pub fn code(self) -> u8
+        ensures { λ r. ⌜ r ≡ code (markOf self) ⌝ }
+    {
+        match self {
+            Mark::None => 0,
+            Mark::Word => 1,
+            Mark::Unknown => 2,
+        }
+    }
 }
 
 fn tokenized_kind(c: u32) -> Kind

@@ -3,7 +3,7 @@ use Prim.Native.Nat.{ℕ, _+_, _-_, _≤_}
 use native.Mathlib.Omega.{arith}
 use native.Mathlib.Numerals.{add-one}
 use mathlib.Core.Path.{_≡_, refl, sym, _∙_}
-use mathlib.Core.Bool.{Bool, true, false, not, _&&_}
+use mathlib.Core.Bool.{Bool, true, false, not, _&&_, and-eq-true-iff}
 use mathlib.Core.List.{List}
 use borrow.Author.Tests.{le-leb, lt-leb, leb-true, leb-false, not-true, not-false}
 use lib.Dec.{leb, ltb}
@@ -26,7 +26,7 @@ leb-less n m = on (leb (n - 1) m) refl
     on false e = lt-leb n (m + 1) (omega (arith, leb-false (n - 1) m e)) ∙ sym e
 
 module _ (r : Record) (d : Buffers) where
-  pub room-same : (
+  pub fits-same : (ok : Bool) → ok ≡ inLimits r → (ok && (
       leb (r .b) (length (d .text-buf))
       && leb (r .n) (length (d .types-buf))
       && leb (r .n) (length (d .boundaries-buf) + 1)
@@ -34,9 +34,9 @@ module _ (r : Record) (d : Buffers) where
       && ltb (r .b) (length (d .byte-pos-buf))
       && leb (r .n) (length (d .row-ends-buf))
       && leb (r .k) (length (d .tag-ends-buf))
-      && leb (r .g) (length (d .tag-bytes-buf))) ≡ roomFor r d
+      && leb (r .g) (length (d .tag-bytes-buf)))) ≡ (inLimits r && roomFor r d)
   unfolding roomFor
-  room-same = rw (leb-less (r .n) (length (d .boundaries-buf)), add-one (r .n), add-one (r .b))
+  fits-same ok e = rw (e, leb-less (r .n) (length (d .boundaries-buf)), add-one (r .n), add-one (r .b))
 
   -- the answers of the passes, in their order
   module _ (text-ok : Bool) (t : text-ok ≡ isText (take (r .b) (d .text-buf)) (take (r .n) (d .types-buf)) (take (r .n + 1) (d .char-pos-buf)) (take (r .b + 1) (d .byte-pos-buf))) where
@@ -58,19 +58,14 @@ module _ (r : Record) (d : Buffers) where
         unfolding isLaid
         laid-is rows-ok g-ok e = rw (← t, not-false text-ok t-ok, ← m, not-false marks-ok m-ok, ← g, not-false tags-ok g-ok) e
 
-  module _ (limits-ok : Bool) (l : limits-ok ≡ inLimits r) where
-    pub no-limits : not limits-ok ≡ true → false ≡ isSheet r d
+  module _ (ok : Bool) (e : ok ≡ (inLimits r && roomFor r d)) where
+    pub no-fit : not ok ≡ true → false ≡ isSheet r d
     unfolding isSheet
-    no-limits e = rw (← l, not-true limits-ok e)
+    no-fit t = rw (← e, not-true ok t)
 
-    module _ (room-ok : Bool) (l-ok : not limits-ok ≡ false) (m : room-ok ≡ roomFor r d) where
-      pub no-room : not room-ok ≡ true → false ≡ isSheet r d
-      unfolding isSheet
-      no-room e = rw (← l, not-false limits-ok l-ok, ← m, not-true room-ok e)
+    pub room-met : not ok ≡ false → Room r d
+    room-met t = let k = and-eq-true-iff (inLimits r) (roomFor r d) .0 (sym e ∙ not-false ok t) in room-is r d (k .0) (k .1)
 
-      pub room-met : not room-ok ≡ false → Room r d
-      room-met e = room-is r d (sym l ∙ not-false limits-ok l-ok) (sym m ∙ not-false room-ok e)
-
-      pub sheet-is : (laid-ok : Bool) → not room-ok ≡ false → laid-ok ≡ isLaid r d → laid-ok ≡ isSheet r d
-      unfolding isSheet
-      sheet-is laid-ok e q = rw (← l, not-false limits-ok l-ok, ← m, not-false room-ok e) q
+    pub sheet-is : (laid : Bool) → not ok ≡ false → laid ≡ isLaid r d → laid ≡ isSheet r d
+    unfolding isSheet
+    sheet-is laid t q = rw (← e, not-false ok t) q

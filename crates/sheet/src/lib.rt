@@ -1,6 +1,7 @@
 // The sheet: a sentence in eight lent buffers, beside a record by value.
 use sentence::Refusal;
 ghost use mathlib.Core.Path.{_≡_};
+ghost use mathlib.Core.Bool.{_&&_};
 ghost use Rattle.sheet.specs.Layout.{buffers, roomFor};
 ghost use Rattle.sheet.specs.Check.{inLimits, isLaid, Room, isSheet};
 
@@ -39,8 +40,8 @@ fn in_limits(r: Record) -> bool
     (1 <= r.n) & (r.b <= 4096) & (r.columns <= 4096) & (r.k <= 65535) & (r.g <= 65535)
 }
 
-// Room for what a record counts.
-fn has_room(
+// The limits, and room for what a record counts.
+fn fits(
     r: Record,
     text: &[u8],
     types: &[u8],
@@ -51,16 +52,17 @@ fn has_room(
     tag_ends: &[u16],
     tag_bytes: &[u8],
 ) -> bool
-    ensures { λ ok. ⌜ ok ≡ roomFor r (buffers (now (text .entry)) (now (types .entry)) (now (boundaries .entry)) (now («char_pos» .entry)) (now («byte_pos» .entry)) (now («row_ends» .entry)) (now («tag_ends» .entry)) (now («tag_bytes» .entry))) ⌝ }
+    ensures { λ ok. ⌜ ok ≡ (inLimits r && roomFor r (buffers (now (text .entry)) (now (types .entry)) (now (boundaries .entry)) (now («char_pos» .entry)) (now («byte_pos» .entry)) (now («row_ends» .entry)) (now («tag_ends» .entry)) (now («tag_bytes» .entry)))) ⌝ }
 {
-    (r.b <= text.len())
-        & (r.n <= types.len())
-        & (r.n <= boundaries.len() + 1)
-        & (r.n < char_pos.len())
-        & (r.b < byte_pos.len())
-        & (r.n <= row_ends.len())
-        & (r.k <= tag_ends.len())
-        & (r.g <= tag_bytes.len())
+    in_limits(r)
+        & ((r.b <= text.len())
+            & (r.n <= types.len())
+            & (r.n <= boundaries.len() + 1)
+            & (r.n < char_pos.len())
+            & (r.b < byte_pos.len())
+            & (r.n <= row_ends.len())
+            & (r.k <= tag_ends.len())
+            & (r.g <= tag_bytes.len()))
 }
 
 // What the record counts of the buffers, part by part.
@@ -109,10 +111,7 @@ pub fn check(
 ) -> bool
     ensures { λ ok. ⌜ ok ≡ isSheet r (buffers (now (text .entry)) (now (types .entry)) (now (boundaries .entry)) (now («char_pos» .entry)) (now («byte_pos» .entry)) (now («row_ends» .entry)) (now («tag_ends» .entry)) (now («tag_bytes» .entry))) ⌝ }
 {
-    if !in_limits(r) {
-        return false;
-    }
-    if !has_room(
+    if !fits(
         r,
         text,
         types,

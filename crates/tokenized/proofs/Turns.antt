@@ -14,6 +14,7 @@ use Rattle.sentence.specs.Writing.{token, writeToken, joined, line, written, ne
 use Rattle.sentence.proofs.Tokens.{onward, onward-start, done-onward}
 use Rattle.sheet.specs.declared.Record.{Record}
 use Rattle.sheet.specs.Layout.{Buffers, spell, Sheet}
+use Rattle.tokens.specs.declared.Token.{Token as Span}
 use Rattle.tokens.specs.declared.Step.{Step}
 use Rattle.tokens.specs.declared.Step.the-variants.{Serves, Done}
 use Rattle.tokens.specs.Steps.{stepOf, marksIn, Bounded}

@@ -57,6 +57,12 @@ charAt (a ∷ s) = charOf a (getD s 0 0) (getD s 1 0) (getD s 2 0)
 unfoldable pub decodeAt : List ℕ → ℕ → Decoded
 decodeAt s at = charAt (drop at s)
 
+-- a character stands there
+unfoldable pub isChar : Decoded → Bool
+isChar (Char v n) = true
+isChar Bad = false
+isChar End = false
+
 -- the characters of a text, up to its end or to what is no character; k bytes belong to the character before
 unfoldable pub walk : ℕ → List ℕ → List Decoded
 walk k [] = []

@@ -1,5 +1,5 @@
 -- `changes::set_boundary` meets its contract. Assumes nothing.
-use Prim.Native.Nat.{_-_}
+use Prim.Native.Nat.{_-_, _≤_, _<_}
 use lib.Dec.{leb, ltb}
 use mathlib.Core.Path.{refl}
 use borrow.Author.Tests.{leb-false, ltb-false}
@@ -32,11 +32,15 @@ returns-2 : tie.Need-returns-2
 unfolding boundaryAnswer
 returns-2 c = lays-refused _ _ _ _ (outside answer.Refused _ _ _ _ _ (c .before .before .before .check .ensures) (c .before .before .if1 .left) (rw (← (bounds (checked _ _ _ (c .before .before .before .check .ensures) (c .before .before .if1 .left)) .n-is)) (c .if2 .taken)))
 
+-- where both tests were passed
+ranged : (c : tie.Else2) → let a = c .before .before .before .before .before .before .before .before .before .before .before .before .before .args in (a .i < a .r .n - 1) × (a .value ≤ 2)
+ranged c =
+    let a = c .before .before .before .before .before .before .before .before .before .before .before .before .before .args in
+    let k = neither (leb (a .r .n - 1) (a .i)) (ltb 2 (a .value)) (c .if2 .left) in
+    (leb-false _ _ (k .0), ltb-false _ _ (k .1))
+
 set-boundary-requires : tie.Need-set-boundary-requires
-set-boundary-requires c κs =
-    let a = c .before .before .before .before .before .before .before .before .before .before .before .before .before .before .args in
-    let k = neither (leb (a .r .n - 1) (a .i)) (ltb 2 (a .value)) (c .before .if2 .left) in
-    (checked _ _ _ (c .before .before .before .before .check .ensures) (c .before .before .before .if1 .left), leb-false _ _ (k .0), ltb-false _ _ (k .1))
+set-boundary-requires c κs = (checked _ _ _ (c .before .before .before .before .check .ensures) (c .before .before .before .if1 .left), ranged (c .before) .0, ranged (c .before) .1)
 
 same-length-3 : tie.Need-same-length-3
 same-length-3 c = search needs

@@ -1,4 +1,5 @@
 -- `lookups::surface` meets its contract. Assumes nothing.
+use Prim.Native.Nat.{_≤_}
 use lib.Dec.{leb, ltb}
 -- `lookups::surface` meets its contract. Assumes nothing.
 use Rattle.sheet.specs.declared.Part.the-variants.{Refused}
@@ -21,11 +22,15 @@ returns-2 : tie.Need-returns-2
 unfolding surfaceAt
 returns-2 c = outside Refused _ _ _ _ _ (c .before .before .before .check .ensures) (c .before .before .if1 .left) (rw (← (bounds (checked _ _ _ (c .before .before .before .check .ensures) (c .before .before .if1 .left)) .n-is)) (c .if2 .taken))
 
-surface-requires : tie.Need-surface-requires
-surface-requires c κs =
+-- where both tests were passed
+ranged : (c : tie.Else2) → let a = c .before .before .before .before .before .before .before .before .before .before .before .before .args in (a .start ≤ a .r .n) × (a .end ≤ a .r .n)
+ranged c =
     let a = c .before .before .before .before .before .before .before .before .before .before .before .before .args in
     let k = neither (leb (a .end) (a .start)) (ltb (a .r .n) (a .end)) (c .if2 .left) in
-    (checked _ _ _ (c .before .before .before .check .ensures) (c .before .before .if1 .left), omega (arith, leb-false (a .end) (a .start) (k .0), ltb-false (a .r .n) (a .end) (k .1)), ltb-false _ _ (k .1))
+    omega (arith, leb-false (a .end) (a .start) (k .0), ltb-false (a .r .n) (a .end) (k .1))
+
+surface-requires : tie.Need-surface-requires
+surface-requires c κs = (checked _ _ _ (c .before .before .before .check .ensures) (c .before .before .if1 .left), ranged c .0, ranged c .1)
 
 returns-3 : tie.Need-returns-3
 unfolding surfaceAt

@@ -63,8 +63,8 @@ use Rattle.tokens.specs.declared.Token.{Token}
 use Rattle.tokens.specs.Steps.{spanIn, marksIn, Bounded, countOf, filledOf, Listed}
 use Rattle.tokens.proofs.Cursor.{Following}
 use Rattle.tokens.proofs.Lists.{Partway, partway-start, partway-next, serves-next, Fills, fills, listed}
-use Rattle.tokens.proofs.Token as T
-use Rattle.tokens.proofs.Token.Laws as T′
+use Rattle.tokens.proofs.Token as Tok
+use Rattle.tokens.proofs.Token.Laws as Tok′
 use Rattle.tokens.proofs.needed as needed
 use Rattle.tokens.proofs.needed.Symbol as needed-def
 use Rattle.tokens.proofs.needed.Symbol.{name as #tokens·needed}
@@ -85,7 +85,7 @@ use Rattle.tokens.proofs.token_list.Code as code
 use Rattle.tokens.proofs.token_list.Code.Mir as fn
 
 abbrev stayed : Stays (f.ended .signature .params) (f.ended .kept)
-stayed = (stay-none (λ _. R.the-row) yes, (stay-none-slice (0 ∷ []) tt (plain (λ _. u8)) yes, (stay-none-slice (1 ∷ []) tt (plain (λ _. u8)) yes, (stay-none-slice (2 ∷ []) tt (plain (λ _. u8)) yes, (stay-none-slice (3 ∷ []) tt (plain (λ _. u16)) yes, (stay-none-slice (4 ∷ []) tt (plain (λ _. u16)) yes, (stay-none-slice (5 ∷ []) tt (plain (λ _. u16)) yes, (stay-none-slice (6 ∷ []) tt (plain (λ _. u16)) yes, (stay-none-slice (7 ∷ []) tt (plain (λ _. u8)) yes, (stay-slice (8 ∷ []) tt (plain (λ _. T.the-row)), tt))))))))))
+stayed = (stay-none (λ _. R.the-row) yes, (stay-none-slice (0 ∷ []) tt (plain (λ _. u8)) yes, (stay-none-slice (1 ∷ []) tt (plain (λ _. u8)) yes, (stay-none-slice (2 ∷ []) tt (plain (λ _. u8)) yes, (stay-none-slice (3 ∷ []) tt (plain (λ _. u16)) yes, (stay-none-slice (4 ∷ []) tt (plain (λ _. u16)) yes, (stay-none-slice (5 ∷ []) tt (plain (λ _. u16)) yes, (stay-none-slice (6 ∷ []) tt (plain (λ _. u16)) yes, (stay-none-slice (7 ∷ []) tt (plain (λ _. u8)) yes, (stay-slice (8 ∷ []) tt (plain (λ _. Tok.the-row)), tt))))))))))
 
 -- the contracts that the proof cites
 module _ {M : Type 1} (𝓤 : URA M) (H : Heap 𝓤) (A : Atoms 𝓤) (mem : Memory → SProp 𝓤) (run : Routine → Fun 𝓤) where
@@ -107,7 +107,7 @@ abbrev shared : ℕ → Width → Ty
 shared i w = sliceTy (tyRef (named i) imm (tyInt w))
 
 abbrev places : Ty
-places = sliceTy (tyRef (named 8) mut (pointee (T.the-row .written)))
+places = sliceTy (tyRef (named 8) mut (pointee (Tok.the-row .written)))
 
 abbrev word : Ty
 word = tyInt w64
@@ -117,7 +117,7 @@ half = tyInt w16
 
 module _ {M : Type 1} (𝓤 : URA M) (H : Heap 𝓤) (A : Atoms 𝓤) (W : Given 𝓤 H A) (mem : Memory → SProp 𝓤) (run : Routine → Fun 𝓤)
     (κ₀ κ₁ κ₂ κ₃ κ₄ κ₅ κ₆ κ₇ κ₈ : Lft) (q₀ q₁ q₂ q₃ q₄ q₅ q₆ q₇ q₈ : Share) (r : Record) (x₀ x₁ x₂ x₃ x₄ x₅ x₆ x₇ : RefT (List ℕ)) (b o : ℕ) (γ : GName) (ys : List Token)
-    (r-is : Is R.the-row r (LL.vals R.the-type R′.the-laws r)) (room₀ : Room u8 (length (x₀ .now))) (room₁ : Room u8 (length (x₁ .now))) (room₂ : Room u8 (length (x₂ .now))) (room₃ : Room u16 (length (x₃ .now))) (room₄ : Room u16 (length (x₄ .now))) (room₅ : Room u16 (length (x₅ .now))) (room₆ : Room u16 (length (x₆ .now))) (room₇ : Room u8 (length (x₇ .now))) (room : Room T.the-row (length ys)) where
+    (r-is : Is R.the-row r (LL.vals R.the-type R′.the-laws r)) (room₀ : Room u8 (length (x₀ .now))) (room₁ : Room u8 (length (x₁ .now))) (room₂ : Room u8 (length (x₂ .now))) (room₃ : Room u16 (length (x₃ .now))) (room₄ : Room u16 (length (x₄ .now))) (room₅ : Room u16 (length (x₅ .now))) (room₆ : Room u16 (length (x₆ .now))) (room₇ : Room u8 (length (x₇ .now))) (room : Room Tok.the-row (length ys)) where
   -- the machine values
   abbrev rv : Val
   rv = LL.val R.the-type R′.the-laws r
@@ -161,7 +161,7 @@ module _ {M : Type 1} (𝓤 : URA M) (H : Heap 𝓤) (A : Atoms 𝓤) (W : Given
   Shared = ShrSlice (named 0) κ₀ u8 ∷ ShrSlice (named 1) κ₁ u8 ∷ ShrSlice (named 2) κ₂ u8 ∷ ShrSlice (named 3) κ₃ u16 ∷ ShrSlice (named 4) κ₄ u16 ∷ ShrSlice (named 5) κ₅ u16 ∷ ShrSlice (named 6) κ₆ u16 ∷ ShrSlice (named 7) κ₇ u8 ∷ []
 
   abbrev Params : List RattleType
-  Params = R.the-row ∷ ShrSlice (named 0) κ₀ u8 ∷ ShrSlice (named 1) κ₁ u8 ∷ ShrSlice (named 2) κ₂ u8 ∷ ShrSlice (named 3) κ₃ u16 ∷ ShrSlice (named 4) κ₄ u16 ∷ ShrSlice (named 5) κ₅ u16 ∷ ShrSlice (named 6) κ₆ u16 ∷ ShrSlice (named 7) κ₇ u8 ∷ MutSlice (named 8) κ₈ T.the-row ∷ []
+  Params = R.the-row ∷ ShrSlice (named 0) κ₀ u8 ∷ ShrSlice (named 1) κ₁ u8 ∷ ShrSlice (named 2) κ₂ u8 ∷ ShrSlice (named 3) κ₃ u16 ∷ ShrSlice (named 4) κ₄ u16 ∷ ShrSlice (named 5) κ₅ u16 ∷ ShrSlice (named 6) κ₆ u16 ∷ ShrSlice (named 7) κ₇ u8 ∷ MutSlice (named 8) κ₈ Tok.the-row ∷ []
 
   abbrev slices : Denots Shared
   slices = (x₀, (x₁, (x₂, (x₃, (x₄, (x₅, (x₆, (x₇, tt))))))))
@@ -186,7 +186,7 @@ module _ {M : Type 1} (𝓤 : URA M) (H : Heap 𝓤) (A : Atoms 𝓤) (W : Given
   OwnR = R.the-row .own r (rv ∷ [])
 
   abbrev OwnL : List Token → Fml
-  OwnL l = MutSlice (named 8) κ₈ T.the-row .own (record { ptr = (b, o); name = γ; now = l }) (sl ∷ [])
+  OwnL l = MutSlice (named 8) κ₈ Tok.the-row .own (record { ptr = (b, o); name = γ; now = l }) (sl ∷ [])
 
   sorted : ent 𝓤 (sem 𝓤 H A (owns Params (args ys) vals)) (mean 𝓤 H A (‵ OwnAll ⊛ ‵ (OwnL ys) ⊛ ‵ OwnR))
   sorted = qed W (‵ (owns Params (args ys) vals) ∷ []) ∵ parts ! Params (args ys) vals $ move ! (1 ∷ 2 ∷ 3 ∷ 4 ∷ 5 ∷ 6 ∷ 7 ∷ 8 ∷ 9 ∷ 0 ∷ []) $ binds ! Shared slices slice-values $ done !
@@ -235,7 +235,7 @@ module _ {M : Type 1} (𝓤 : URA M) (H : Heap 𝓤) (A : Atoms 𝓤) (W : Given
 
   -- what is had once the borrow is closed at l
   abbrev Ended : List Token → List (Item 𝓤)
-  Ended l = ‵ (fobs γ (codedHoleys T.the-row .code (heres T.the-row l))) ∷ ‵ (fbor κ₈ (Held T.the-row (length l) b o γ)) ∷ ‵ (flft κ₈ q₈) ∷ ‵ (flft κ₂ q₂) ∷ lifetimes 7 κs₇ qs₇ ∷ ‵ OwnAll ∷ []
+  Ended l = ‵ (fobs γ (codedHoleys Tok.the-row .code (heres Tok.the-row l))) ∷ ‵ (fbor κ₈ (Held Tok.the-row (length l) b o γ)) ∷ ‵ (flft κ₈ q₈) ∷ ‵ (flft κ₂ q₂) ∷ lifetimes 7 κs₇ qs₇ ∷ ‵ OwnAll ∷ []
 
   exits : (ans : Number) (v : Val) (l : List Token) → Is N.the-row ans (v ∷ []) → length l ≡ length ys → Listed r D ys ans l → ent 𝓤 (⋆ 𝓤 H A (Ended l)) (Post v)
   exits ans v l is long is-listed =
@@ -243,7 +243,7 @@ module _ {M : Type 1} (𝓤 : URA M) (H : Heap 𝓤) (A : Atoms 𝓤) (W : Given
       suffices ! _ (ends-at 𝓤 H A f.ended stayed (f.clauses 𝓤 H A mem run) W ((κs, qs, tt, args ys, vals), tt) v ans (tt, (tt, (tt, (tt, (tt, (tt, (tt, (tt, (tt, (l, tt)))))))))) (tt, (tt, (tt, (tt, (tt, (tt, (tt, (tt, (tt, (long, tt))))))))))) $ says ! is-listed $
       move ! (2 ∷ 3 ∷ 4 ∷ []) $ use3 W (lifetimes 9 κs qs) lifetimes-back $ frame ! $
       -- [obs; the borrow; what the shared slices own]
-      fjoin ! $ pureI ! (at-slice T.the-row (record { ptr = (b, o); name = γ; now = l }) (sl ∷ [])) (tt, (tt, tt)) (ap (λ (m : ℕ). sliceVal (b, o) m ∷ []) (sym long), subst (Room T.the-row) (sym long) room) $ fjoin ! $
+      fjoin ! $ pureI ! (at-slice Tok.the-row (record { ptr = (b, o); name = γ; now = l }) (sl ∷ [])) (tt, (tt, tt)) (ap (λ (m : ℕ). sliceVal (b, o) m ∷ []) (sym long), subst (Room Tok.the-row) (sym long) room) $ fjoin ! $
       owned ! R.the-row (Is R.the-row) (LL.makes R.the-type R′.the-plain 𝓤 H A) r _ r-is $ move ! (2 ∷ 1 ∷ 0 ∷ []) $ use3 W (‵ (owns Params (args l) vals)) (sorted-back l) $
       owned ! N.the-row (Is N.the-row) (EL.makes N.the-type N′.the-plain 𝓤 H A) ans _ is $ move ! (1 ∷ 0 ∷ []) $ done !
 
@@ -320,7 +320,7 @@ module _ {M : Type 1} (𝓤 : URA M) (H : Heap 𝓤) (A : Atoms 𝓤) (W : Given
 
   module _ (l₀ l₁ l₂ l₃ l₄ l₅ l₆ l₇ l₈ l₉ l₁₀ l₁₁ l₁₂ l₁₃ l₁₄ l₁₅ l₁₆ l₁₇ l₁₈ l₁₉ : ℕ) where
     abbrev En : Env 𝓤 H
-    En = (N′.mir, l₀) ∷ (R′.mir, l₁) ∷ (shared 0 w8, l₂) ∷ (shared 1 w8, l₃) ∷ (shared 2 w8, l₄) ∷ (shared 3 w16, l₅) ∷ (shared 4 w16, l₆) ∷ (shared 5 w16, l₇) ∷ (shared 6 w16, l₈) ∷ (shared 7 w8, l₉) ∷ (places, l₁₀) ∷ (N′.mir, l₁₁) ∷ (word, l₁₂) ∷ (half, l₁₃) ∷ (word, l₁₄) ∷ (T′.mir, l₁₅) ∷ (word, l₁₆) ∷ (tyBool, l₁₇) ∷ (word, l₁₈) ∷ (tyPtr, l₁₉) ∷ []
+    En = (N′.mir, l₀) ∷ (R′.mir, l₁) ∷ (shared 0 w8, l₂) ∷ (shared 1 w8, l₃) ∷ (shared 2 w8, l₄) ∷ (shared 3 w16, l₅) ∷ (shared 4 w16, l₆) ∷ (shared 5 w16, l₇) ∷ (shared 6 w16, l₈) ∷ (shared 7 w8, l₉) ∷ (places, l₁₀) ∷ (N′.mir, l₁₁) ∷ (word, l₁₂) ∷ (half, l₁₃) ∷ (word, l₁₄) ∷ (Tok′.mir, l₁₅) ∷ (word, l₁₆) ∷ (tyBool, l₁₇) ∷ (word, l₁₈) ∷ (tyPtr, l₁₉) ∷ []
 
     -- the locals of the parameters and of the result, while the code runs
     abbrev Kept : List (Item 𝓤)
@@ -335,9 +335,9 @@ module _ {M : Type 1} (𝓤 : URA M) (H : Heap 𝓤) (A : Atoms 𝓤) (W : Given
 
       abbrev At : Upto → List (Item 𝓤)
       At u =
-          ‵ (row T.the-row fullShare (u .2) b o) ∷ ‵ (fobor κ₈ q₈ (Held T.the-row (length ys) b o γ)) ∷ ‵ (fobs γ (codedHoleys T.the-row .code (heres T.the-row ys))) ∷ ‵ (fauth γ (codedHoleys T.the-row .code (heres T.the-row ys)))
+          ‵ (row Tok.the-row fullShare (u .2) b o) ∷ ‵ (fobor κ₈ q₈ (Held Tok.the-row (length ys) b o γ)) ∷ ‵ (fobs γ (codedHoleys Tok.the-row .code (heres Tok.the-row ys))) ∷ ‵ (fauth γ (codedHoleys Tok.the-row .code (heres Tok.the-row ys)))
           ∷ ‵ (flft κ₂ q₂) ∷ ‵ OwnB ∷ lifetimes 7 κs₇ qs₇ ∷ ‵ OwnAll
-          ∷ bare tyPtr l₁₉ (bare word l₁₈ (bare tyBool l₁₇ (bare word l₁₆ (bare T′.mir l₁₅ (has word l₁₄ (vint w64 (u .0)) (has half l₁₃ (vint w16 (u .1)) (has word l₁₂ (vint w64 K) (has N′.mir l₁₁ v Kept))))))))
+          ∷ bare tyPtr l₁₉ (bare word l₁₈ (bare tyBool l₁₇ (bare word l₁₆ (bare Tok′.mir l₁₅ (has word l₁₄ (vint w64 (u .0)) (has half l₁₃ (vint w16 (u .1)) (has word l₁₂ (vint w64 K) (has N′.mir l₁₁ v Kept))))))))
 
       abbrev Turned : Upto → Out → SProp 𝓤
       Turned u = afterTurn 𝓤 H (Below 𝓤 H A Nearer At u) (afterBlock 𝓤 H (afterSeq 𝓤 H (Wp 𝓤 H C Λ En fn.t-7 (atReturn 𝓤 H En Post)) (atReturn 𝓤 H En Post)))
@@ -364,20 +364,20 @@ module _ {M : Type 1} (𝓤 : URA M) (H : Heap 𝓤) (A : Atoms 𝓤) (W : Given
           -- the call, with a copy of the boundaries
           move ! (5 ∷ []) $ use1 W (‵ OwnB ⊛ ‵ OwnB) (shr-slice-copy 𝓤 H A W (named 2) κ₂ u8 .twice x₂ (s₂ ∷ [])) $ split ! $ move ! (6 ∷ 0 ∷ []) $ use2 W (raw (From 𝓤 H A mem run .pre (to-from p))) (asked-from p h p-fits) $
           calls-at ! (fmOf 𝓤 H (W .laws) 𝓣) (From 𝓤 H A mem run) known (to-from p) (and-then ! (load ! (from ! (stop !)) (look ! 38 refl)) (and-then ! (load ! (from ! (fld ! refl (stop !))) (look-in ! 44 (sub ! 0 refl (whole !)))) (and-then ! (load ! (from ! (stop !)) (look ! 20 refl)) (no-more !)))) (λ w.
-          use1 W (later (some (λ (y : Token). ((‵ (flft κ₂ q₂) ⊛ ‵ ftrue) ⊛ ‵ (T.the-row .own y (w ∷ []))) ⊛ raw (Serves p y)))) (id⊢ 𝓤 _) $ await ! tt $ pick ! (λ y.
+          use1 W (later (some (λ (y : Token). ((‵ (flft κ₂ q₂) ⊛ ‵ ftrue) ⊛ ‵ (Tok.the-row .own y (w ∷ []))) ⊛ raw (Serves p y)))) (id⊢ 𝓤 _) $ await ! tt $ pick ! (λ y.
           split ! $ move ! (1 ∷ []) $ use1 W (raw (fact 𝓤 (y ≡ t))) (said-from p y) $ heard ! (y ≡ t) (λ is-t. split ! $ move ! (1 ∷ []) $
-          peeks ! T.the-row (Is T.the-row) (shows 𝓤 H A T.the-row) y (w ∷ []) (λ is.
-          land ! (from ! (stop !)) (init ! 17 refl (LL.lawful T.the-type T′.the-laws 𝓤 H A W .typed y _ is .0)) $
-          rewrite ! 17 (λ (z : Val). ‵ (fat fullShare T′.mir l₁₅ 0 z)) (ap only (LL.tells T.the-type T′.the-laws y (w ∷ []) is) ∙ ap (LL.val T.the-type T′.the-laws) is-t) refl $
+          peeks ! Tok.the-row (Is Tok.the-row) (shows 𝓤 H A Tok.the-row) y (w ∷ []) (λ is.
+          land ! (from ! (stop !)) (init ! 17 refl (LL.lawful Tok.the-type Tok′.the-laws 𝓤 H A W .typed y _ is .0)) $
+          rewrite ! 17 (λ (z : Val). ‵ (fat fullShare Tok′.mir l₁₅ 0 z)) (ap only (LL.tells Tok.the-type Tok′.the-laws y (w ∷ []) is) ∙ ap (LL.val Tok.the-type Tok′.the-laws) is-t) refl $
           drop ! $ split ! $ move ! (1 ∷ []) $ drop ! $ move ! (2 ∷ 3 ∷ 4 ∷ 5 ∷ 0 ∷ 1 ∷ []) $
           -- the store
           assigns ! (bin ! (load ! (from ! (stop !)) (look ! 18 refl)) (lit ! tt) (record { fits = at-fits })) (from ! (stop !)) (init ! 10 refl (tt, record { fits = at-fits })) $
           assigns ! (bin ! (load ! (from ! (fld ! refl (stop !))) (look-in ! 26 (sub ! 0 refl (whole !)))) (load ! (from ! (stop !)) (look ! 10 refl)) tt) (from ! (stop !)) (init ! 8 refl (tt, tt)) $
           rewrite ! 8 (λ (m : ℕ). ‵ (fat fullShare tyPtr l₁₉ 0 (vptr b m))) (sym (place-is 4 o i)) refl $
-          elem-out ! T.the-row (Is T.the-row) (shows 𝓤 H A T.the-row) (LL.vals T.the-type T′.the-laws) (LL.tells T.the-type T′.the-laws) fullShare (u .2) i t b o in-list (λ _.
+          elem-out ! Tok.the-row (Is Tok.the-row) (shows 𝓤 H A Tok.the-row) (LL.vals Tok.the-type Tok′.the-laws) (LL.tells Tok.the-type Tok′.the-laws) fullShare (u .2) i t b o in-list (λ _.
           assigns ! (of-opd ! (load ! (from ! (stop !)) (look ! 18 refl))) (from ! (hop ! (look ! 10 refl) (stop !))) (store-raw ! 0 refl (tt, (record { fits = start-fits }, (record { fits = end-fits }, tt)))) $
-          move ! (1 ∷ []) $ drop ! $ owned ! T.the-row (Is T.the-row) ((LL.makes T.the-type T′.the-plain) 𝓤 H A) t _ (LL.owes T.the-type T′.the-laws t ((refl, start-fits), ((refl, end-fits), tt))) $
-          move ! (1 ∷ 0 ∷ []) $ elem-put ! T.the-row fullShare (u .2) i t (vstruct (vcons (vint w16 (t .start)) (vcons (vint w16 (t .end)) vnil)) ∷ []) b o in-list $
+          move ! (1 ∷ []) $ drop ! $ owned ! Tok.the-row (Is Tok.the-row) ((LL.makes Tok.the-type Tok′.the-plain) 𝓤 H A) t _ (LL.owes Tok.the-type Tok′.the-laws t ((refl, start-fits), ((refl, end-fits), tt))) $
+          move ! (1 ∷ 0 ∷ []) $ elem-put ! Tok.the-row fullShare (u .2) i t (vstruct (vcons (vint w16 (t .start)) (vcons (vint w16 (t .end)) vnil)) ∷ []) b o in-list $
           -- the next turn
           assigns ! (of-opd ! (load ! (from ! (fld ! refl (stop !))) (look-in ! 16 (sub ! 1 refl (whole !))))) (from ! (stop !)) (store ! 20 refl (tt, record { fits = end-fits })) $
           assigns-last ! (bin ! (load ! (from ! (stop !)) (look ! 18 refl)) (lit ! tt) (record { fits = count-fits })) (from ! (stop !)) (store ! 18 refl (tt, record { fits = count-fits })) $
@@ -391,7 +391,7 @@ module _ {M : Type 1} (𝓤 : URA M) (H : Heap 𝓤) (A : Atoms 𝓤) (W : Given
           let all : u .0 ≡ K = omega (arith, ltb-false (u .0) K e) in
           let is-listed : Listed r D ys ans (u .2) = subst (λ (z : Number). Listed r D ys z (u .2)) (sym is-ans) (listed r D ys (u .0) (u .1) (u .2) (u .4) all) in
           assigns ! (bin ! (load ! (from ! (stop !)) (look ! 18 refl)) (load ! (from ! (stop !)) (look ! 22 refl)) tt) (from ! (stop !)) (init ! 12 refl (tt, tt)) $ rewrite ! 12 (λ (t : Bool). ‵ (fat fullShare tyBool l₁₇ 0 (vbool t))) e refl $
-          leaves-loop ! (load ! (from ! (stop !)) (look ! 12 refl)) $ exec ! C Λ En fn.t-7 (atRet En Post) $ closes-slice ! tt T.the-row ys (u .2) long b o $
+          leaves-loop ! (load ! (from ! (stop !)) (look ! 12 refl)) $ exec ! C Λ En fn.t-7 (atRet En Post) $ closes-slice ! tt Tok.the-row ys (u .2) long b o $
           -- [obs; the borrow; the token of κ₈; that of κ₂; what the boundaries own; the other tokens; what all own; _19; …]
           assigns ! (of-opd ! (load ! (from ! (stop !)) (look ! 23 refl))) (from ! (stop !)) (init ! 45 refl (EL.lawful N.the-type N′.the-laws 𝓤 H A W tt .typed ans _ ans-is .0)) $
           returns ! (look ! 45 refl) $ forget ! 11 refl $ forget ! 17 refl $ forget ! 19 refl $ forget ! 21 refl $ forget ! 23 refl $ forget ! 25 refl $ forget ! 27 refl $ forget ! 29 refl $ forget ! 31 refl $ forget ! 33 refl $ forget ! 35 refl $ forget ! 37 refl $ forget ! 39 refl $ forget ! 41 refl $ forget ! 43 refl $ forget ! 45 refl $
@@ -406,17 +406,17 @@ module _ {M : Type 1} (𝓤 : URA M) (H : Heap 𝓤) (A : Atoms 𝓤) (W : Given
 
       -- ---- up to the loop, from its last part to its first
       -- the borrow is opened
-      opens : Sq W (lifetimes 8 κs₈ qs₈ ∷ ‵ (flft κ₈ q₈) ∷ ‵ OwnAll ∷ ‵ (OwnL ys) ∷ bare tyPtr l₁₉ (bare word l₁₈ (bare tyBool l₁₇ (has word l₁₆ (vint w64 (length ys)) (bare T′.mir l₁₅ (bare word l₁₄ (bare half l₁₃ (has word l₁₂ (vint w64 K) (has N′.mir l₁₁ v Kept))))))))) (runs C Λ En fn.t-4 (atRet En Post))
+      opens : Sq W (lifetimes 8 κs₈ qs₈ ∷ ‵ (flft κ₈ q₈) ∷ ‵ OwnAll ∷ ‵ (OwnL ys) ∷ bare tyPtr l₁₉ (bare word l₁₈ (bare tyBool l₁₇ (has word l₁₆ (vint w64 (length ys)) (bare Tok′.mir l₁₅ (bare word l₁₄ (bare half l₁₃ (has word l₁₂ (vint w64 K) (has N′.mir l₁₁ v Kept))))))))) (runs C Λ En fn.t-4 (atRet En Post))
       opens =
           assigns ! (of-opd ! (lit ! tt)) (from ! (stop !)) (init ! 16 refl (tt, record { fits = lit< tt })) $ assigns ! (of-opd ! (lit ! tt)) (from ! (stop !)) (init ! 14 refl (tt, record { fits = lit< tt })) $ forget ! 10 refl $
-          move ! (3 ∷ []) $ fsplit ! $ drop ! $ fsplit ! $ move ! (0 ∷ 1 ∷ 3 ∷ []) $ opens-slice ! tt T.the-row ys b o $
+          move ! (3 ∷ []) $ fsplit ! $ drop ! $ fsplit ! $ move ! (0 ∷ 1 ∷ 3 ∷ []) $ opens-slice ! tt Tok.the-row ys b o $
           -- [the row; the open borrow; obs; auth; the tokens of the shared slices; what they own; _19; …]
           move ! (4 ∷ []) $ use1 W (‵ (flft κ₂ q₂) ⊛ lifetimes 7 κs₇ qs₇) lifetimes-read $ split ! $ move ! (6 ∷ []) $ use1 W (‵ OwnAll ⊛ ‵ OwnB) read-too $ split ! $ move ! (4 ∷ 5 ∷ 6 ∷ 7 ∷ 2 ∷ 1 ∷ 3 ∷ 0 ∷ []) $
           first ! $ blocks ! $ loops ! 𝓣 Nearer Nearer-wf At turns (0, 0, ys, zero-le, partway-start (r .n) bs ys)
 
       -- `filled` tells how many records there are to fill
       counts : Triple 𝓤 (𝓣 .C #tokens·filled) (Filled 𝓤 H A mem run)
-          → Sq W (‵ (N.the-row .own ans (v ∷ [])) ∷ lifetimes 8 κs₈ qs₈ ∷ ‵ (flft κ₈ q₈) ∷ ‵ OwnAll ∷ ‵ (OwnL ys) ∷ bare tyPtr l₁₉ (bare word l₁₈ (bare tyBool l₁₇ (has word l₁₆ (vint w64 (length ys)) (bare T′.mir l₁₅ (bare word l₁₄ (bare half l₁₃ (bare word l₁₂ (has N′.mir l₁₁ v Kept))))))))) (runs C Λ En fn.t-3 (atRet En Post))
+          → Sq W (‵ (N.the-row .own ans (v ∷ [])) ∷ lifetimes 8 κs₈ qs₈ ∷ ‵ (flft κ₈ q₈) ∷ ‵ OwnAll ∷ ‵ (OwnL ys) ∷ bare tyPtr l₁₉ (bare word l₁₈ (bare tyBool l₁₇ (has word l₁₆ (vint w64 (length ys)) (bare Tok′.mir l₁₅ (bare word l₁₄ (bare half l₁₃ (bare word l₁₂ (has N′.mir l₁₁ v Kept))))))))) (runs C Λ En fn.t-3 (atRet En Post))
       counts known-filled =
           use1 W (raw (Filled 𝓤 H A mem run .pre (to-filled ans v))) (asked-filled ans v) $
           calls-at ! (fmOf 𝓤 H (W .laws) 𝓣) (Filled 𝓤 H A mem run) known-filled (to-filled ans v) (and-then ! (load ! (from ! (stop !)) (look ! 21 refl)) (no-more !)) (λ w.
@@ -428,7 +428,7 @@ module _ {M : Type 1} (𝓤 : URA M) (H : Heap 𝓤) (A : Atoms 𝓤) (W : Given
 
     -- `needed` answers
     begins : (𝓣 : Tables 𝓤 H) → Triple 𝓤 (𝓣 .C #tokens·needed) (Needed 𝓤 H A mem run) → Triple 𝓤 (𝓣 .C #tokens·filled) (Filled 𝓤 H A mem run) → Triple 𝓤 (𝓣 .C #tokens·given·token-from) (From 𝓤 H A mem run)
-        → Sq W (lifetimes 9 κs qs ∷ ‵ (owns Params (args ys) vals) ∷ bare tyPtr l₁₉ (bare word l₁₈ (bare tyBool l₁₇ (bare word l₁₆ (bare T′.mir l₁₅ (bare word l₁₄ (bare half l₁₃ (bare word l₁₂ (bare N′.mir l₁₁ Kept))))))))) (runs (𝓣 .C) (𝓣 .Λ) En fn.t-1 (atRet En Post))
+        → Sq W (lifetimes 9 κs qs ∷ ‵ (owns Params (args ys) vals) ∷ bare tyPtr l₁₉ (bare word l₁₈ (bare tyBool l₁₇ (bare word l₁₆ (bare Tok′.mir l₁₅ (bare word l₁₄ (bare half l₁₃ (bare word l₁₂ (bare N′.mir l₁₁ Kept))))))))) (runs (𝓣 .C) (𝓣 .Λ) En fn.t-1 (atRet En Post))
     begins 𝓣 known-needed known-filled known-from =
         assigns ! (of-opd ! (load ! (from ! (fld ! refl (stop !))) (look-in ! 20 (sub ! 1 refl (whole !))))) (from ! (stop !)) (init ! 8 refl (tt, record { fits = room .0 })) $
         use1 W (lifetimes 8 κs₈ qs₈ ⊛ ‵ (flft κ₈ q₈)) lifetimes-apart $ split ! $ move ! (2 ∷ []) $ use1 W (‵ OwnAll ⊛ ‵ (OwnL ys) ⊛ ‵ OwnR) sorted $ split ! $ use1 W (‵ OwnAll ⊛ ‵ OwnAll) copied $ split ! $ move ! (2 ∷ []) $ split ! $
@@ -455,7 +455,7 @@ module _ {M : Type 1} (𝓤 : URA M) (H : Heap 𝓤) (A : Atoms 𝓤) (W : Given
   token-list-walks : (𝓣 : Tables 𝓤 H) → Triple 𝓤 (𝓣 .C #tokens·needed) (Needed 𝓤 H A mem run) → Triple 𝓤 (𝓣 .C #tokens·filled) (Filled 𝓤 H A mem run) → Triple 𝓤 (𝓣 .C #tokens·given·token-from) (From 𝓤 H A mem run) → Walks 𝓤 H A f.ended stayed (WpFn 𝓤 H (𝓣 .C) (𝓣 .Λ) code.function) (f.clauses 𝓤 H A mem run)
   token-list-walks 𝓣 known-needed known-filled known-from = walked 𝓤 H A f.ended stayed (f.clauses 𝓤 H A mem run) (WpFn 𝓤 H (𝓣 .C) (𝓣 .Λ) code.function)
       (λ κs. (LL.vals R.the-type R′.the-laws, (slice-vals, (slice-vals, (slice-vals, (slice-vals, (slice-vals, (slice-vals, (slice-vals, (slice-vals, (slice-vals, tt)))))))))))
-      (λ κs. (LL.tells R.the-type R′.the-laws, (shr-slice-tells (named 0) (κs .0) u8, (shr-slice-tells (named 1) (κs .1 .0) u8, (shr-slice-tells (named 2) (κs .1 .1 .0) u8, (shr-slice-tells (named 3) (κs .1 .1 .1 .0) u16, (shr-slice-tells (named 4) (κs .1 .1 .1 .1 .0) u16, (shr-slice-tells (named 5) (κs .1 .1 .1 .1 .1 .0) u16, (shr-slice-tells (named 6) (κs .1 .1 .1 .1 .1 .1 .0) u16, (shr-slice-tells (named 7) (κs .1 .1 .1 .1 .1 .1 .1 .0) u8, (mut-slice-tells (named 8) (κs .1 .1 .1 .1 .1 .1 .1 .1 .0) T.the-row, tt)))))))))))
+      (λ κs. (LL.tells R.the-type R′.the-laws, (shr-slice-tells (named 0) (κs .0) u8, (shr-slice-tells (named 1) (κs .1 .0) u8, (shr-slice-tells (named 2) (κs .1 .1 .0) u8, (shr-slice-tells (named 3) (κs .1 .1 .1 .0) u16, (shr-slice-tells (named 4) (κs .1 .1 .1 .1 .0) u16, (shr-slice-tells (named 5) (κs .1 .1 .1 .1 .1 .0) u16, (shr-slice-tells (named 6) (κs .1 .1 .1 .1 .1 .1 .0) u16, (shr-slice-tells (named 7) (κs .1 .1 .1 .1 .1 .1 .1 .0) u8, (mut-slice-tells (named 8) (κs .1 .1 .1 .1 .1 .1 .1 .1 .0) Tok.the-row, tt)))))))))))
       (λ κs qs bounds a g are. via 𝓤 _ (fst∗ 𝓤 _ (emp 𝓤)) (walk 𝓤 H A W mem run
       (κs .0) (κs .1 .0) (κs .1 .1 .0) (κs .1 .1 .1 .0) (κs .1 .1 .1 .1 .0) (κs .1 .1 .1 .1 .1 .0) (κs .1 .1 .1 .1 .1 .1 .0) (κs .1 .1 .1 .1 .1 .1 .1 .0) (κs .1 .1 .1 .1 .1 .1 .1 .1 .0)
       (qs .0) (qs .1 .0) (qs .1 .1 .0) (qs .1 .1 .1 .0) (qs .1 .1 .1 .1 .0) (qs .1 .1 .1 .1 .1 .0) (qs .1 .1 .1 .1 .1 .1 .0) (qs .1 .1 .1 .1 .1 .1 .1 .0) (qs .1 .1 .1 .1 .1 .1 .1 .1 .0)
@@ -465,7 +465,7 @@ module _ {M : Type 1} (𝓤 : URA M) (H : Heap 𝓤) (A : Atoms 𝓤) (W : Given
       𝓣 known-needed known-filled known-from))
 
   goes : AllGo 𝓤 H A W 9 (f.signature .params) (f.ended .kept) stayed
-  goes = (goes-none 𝓤 H A W 9 (λ _. R.the-row) yes (λ κs x f. refl), (goes-none-slice 𝓤 H A W 9 (0 ∷ []) tt (plain (λ _. u8)) yes, (goes-none-slice 𝓤 H A W 9 (1 ∷ []) tt (plain (λ _. u8)) yes, (goes-none-slice 𝓤 H A W 9 (2 ∷ []) tt (plain (λ _. u8)) yes, (goes-none-slice 𝓤 H A W 9 (3 ∷ []) tt (plain (λ _. u16)) yes, (goes-none-slice 𝓤 H A W 9 (4 ∷ []) tt (plain (λ _. u16)) yes, (goes-none-slice 𝓤 H A W 9 (5 ∷ []) tt (plain (λ _. u16)) yes, (goes-none-slice 𝓤 H A W 9 (6 ∷ []) tt (plain (λ _. u16)) yes, (goes-none-slice 𝓤 H A W 9 (7 ∷ []) tt (plain (λ _. u8)) yes, (goes-slice 𝓤 H A W 9 8 tt (plain (λ _. T.the-row)), tt))))))))))
+  goes = (goes-none 𝓤 H A W 9 (λ _. R.the-row) yes (λ κs x f. refl), (goes-none-slice 𝓤 H A W 9 (0 ∷ []) tt (plain (λ _. u8)) yes, (goes-none-slice 𝓤 H A W 9 (1 ∷ []) tt (plain (λ _. u8)) yes, (goes-none-slice 𝓤 H A W 9 (2 ∷ []) tt (plain (λ _. u8)) yes, (goes-none-slice 𝓤 H A W 9 (3 ∷ []) tt (plain (λ _. u16)) yes, (goes-none-slice 𝓤 H A W 9 (4 ∷ []) tt (plain (λ _. u16)) yes, (goes-none-slice 𝓤 H A W 9 (5 ∷ []) tt (plain (λ _. u16)) yes, (goes-none-slice 𝓤 H A W 9 (6 ∷ []) tt (plain (λ _. u16)) yes, (goes-none-slice 𝓤 H A W 9 (7 ∷ []) tt (plain (λ _. u8)) yes, (goes-slice 𝓤 H A W 9 8 tt (plain (λ _. Tok.the-row)), tt))))))))))
 
 token-list-meets : {M : Type 1} (𝓤 : URA M) (H : Heap 𝓤) (A : Atoms 𝓤) → Given 𝓤 H A → (mem : Memory → SProp 𝓤) (run : Routine → Fun 𝓤) (𝓣 : Tables 𝓤 H)
     → Triple 𝓤 (𝓣 .C #tokens·needed) (Needed 𝓤 H A mem run) → Triple 𝓤 (𝓣 .C #tokens·filled) (Filled 𝓤 H A mem run) → Triple 𝓤 (𝓣 .C #tokens·given·token-from) (From 𝓤 H A mem run)

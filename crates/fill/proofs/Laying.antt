@@ -1,0 +1,257 @@
+-- What the loop over a line keeps: its acts that are left store what is left of each part. Assumes nothing.
+use Prim.Native.Nat.{ℕ, _+_, _≤_, _<_}
+use mathlib.Core.Path.{_≡_, refl, sym, ap, subst, _∙_}
+use mathlib.Core.Bool.{Bool, true, false}
+use mathlib.Core.List.{List, [], _∷_}
+use native.Mathlib.Omega.{arith}
+use borrow.Author.Tests.{ltb-false}
+use lib.Dec.{eqb, ltb}
+use lib.ListN.{length, take, drop, drop-of-length-le}
+use Rattle.laws.specs.If.{if_then_else_, if-both}
+use Rattle.utf8.specs.Utf8.{encode, width, size, decodeAt, walk, chars, validPrefix, values, scalars, isChar}
+use Rattle.utf8.specs.declared.Decoded.{Decoded}
+use Rattle.utf8.specs.declared.Decoded.the-variants.{Char, Bad, End}
+use Rattle.utf8.proofs.Codec.{encode-decode, valid-within}
+use Rattle.utf8.proofs.Laws.{Passed, len-ok, width-at, char-within, chars-char, passed-char, passed-bad, end-past, bad-inside}
+use Rattle.sentence.specs.Sentence.{Sentence}
+use Rattle.sentence.specs.Reading.{Form, Place, at, start, behind, inTag, gap, escaped, Act, skip, letter, opens, ofTag, go, stop, kind, advance, Run, whole, stopped, ending, finish, push, follow, run, gather, Result, sentence, refused, built, placed, read}
+use Rattle.sentence.specs.Reading as reading
+use Rattle.sentence.proofs.Shape.{ActOf, StepOf, step-of}
+use Rattle.sheet.specs.Layout.{Buffers, buffers, recordOf, roomFor, laid}
+use Rattle.reader.specs.declared.Act as acts
+use Rattle.reader.specs.declared.State.{State}
+use Rattle.reader.specs.declared.Stepped.{Stepped}
+use Rattle.reader.specs.declared.Stepped.the-variants.{Go, Refuse}
+use Rattle.reader.specs.Flags.{stateOf, flags, actOf, stepped, stepOf}
+use Rattle.reader.proofs.Enums.{state-back, step-is}
+use Rattle.counts.specs.declared.Counts.{Counts}
+use Rattle.counts.specs.Counts.{Small, opened, nothing, bytes, tallyBy, tally}
+use Rattle.counts.proofs.Bounds.{small-more, tally-small}
+use Rattle.stores.specs.Parts.{Part, Stored, Bytes, Turning, Finishing, Finished}
+use Rattle.fill.specs.Fill.{Fits, filled, Same}
+use Rattle.fill.proofs.Going.{Emitted, emitted, Goings, Roomy, roomy, goings-start, goings-room, goings-turn, goings-finish, goings-done}
+
+-- ---- a line that reads to a sentence
+record Reads (f : Form) (x : List ℕ) (s : Sentence) : Type 0 where
+  short : length x ≤ 4096
+  valid : validPrefix x ≡ length x
+  acts : List Act
+  runs : run f (at start) (scalars x) ≡ whole acts
+  builds : built (gather acts) ≡ sentence s
+
+reads-of : (f : Form) (x : List ℕ) (s : Sentence) → read f x ≡ sentence s → Reads f x s
+unfolding read if_then_else_ placed
+reads-of f x s = long (ltb 4096 (length x)) refl
+  where
+    ran : (r : Run) → run f (at start) (scalars x) ≡ r → length x ≤ 4096 → validPrefix x ≡ length x → placed (length x) r ≡ sentence s → Reads f x s
+    ran (whole l) e h v i = record { short = h; valid = v; acts = l; runs = e; builds = i }
+    ran (stopped n left) e h v i = let z : _≡_ {A = ℕ} 0 1 = cc in absurd (omega arith)
+
+    bad : (b : Bool) → ltb (validPrefix x) (length x) ≡ b → length x ≤ 4096
+        → (if b then refused 2 (validPrefix x) else placed (length x) (run f (at start) (scalars x))) ≡ sentence s → Reads f x s
+    bad true e h i = let z : _≡_ {A = ℕ} 0 1 = cc in absurd (omega arith)
+    bad false e h i = ran (run f (at start) (scalars x)) refl h (omega (arith, ltb-false (validPrefix x) (length x) e, valid-within x)) i
+
+    long : (b : Bool) → ltb 4096 (length x) ≡ b
+        → (if b then refused 1 4096 else if ltb (validPrefix x) (length x) then refused 2 (validPrefix x) else placed (length x) (run f (at start) (scalars x))) ≡ sentence s → Reads f x s
+    long true e i = let z : _≡_ {A = ℕ} 0 1 = cc in absurd (omega arith)
+    long false e i = bad (ltb (validPrefix x) (length x)) refl (ltb-false 4096 (length x) e) i
+
+-- ---- the invariant
+pub record Laying (f : Form) (x : List ℕ) (σ : State) (k : Counts) (p : ℕ) (d₀ d : Buffers) : Type 0 where
+  pub s : Sentence
+  pub left : List Act
+  pub reads : read f x ≡ sentence s
+  pub room : roomFor (recordOf s) d₀ ≡ true
+  pub short : length x ≤ 4096
+  pub valid : validPrefix x ≡ length x
+  pub within : p ≤ length x
+  pub passed : Passed x p
+  pub small : Small k p
+  pub runs : run f (stateOf σ) (scalars (drop p x)) ≡ whole left
+  pub goings : Goings left k s d₀ d
+
+nothing-small : Small nothing 0
+unfolding nothing opened
+nothing-small = record { n-small = omega arith; b-small = omega arith; columns-small = omega arith; tags-small = omega arith; k-small = omega arith; g-small = omega arith }
+
+pub lay-start : (f : Form) (x : List ℕ) (σ : State) (k : Counts) (d : Buffers) → Fits (read f x) d → σ ≡ flags (at start) → k ≡ nothing → Laying f x σ k 0 d d
+lay-start f x σ k d = on (read f x) refl
+  where
+    on : (r : Result) → read f x ≡ r → Fits r d → σ ≡ flags (at start) → k ≡ nothing → Laying f x σ k 0 d d
+    on (sentence s) e h i j =
+        let r = reads-of f x s e in
+        record {
+          s = s;
+          left = r .acts;
+          reads = e;
+          room = h;
+          short = r .short;
+          valid = r .valid;
+          within = omega arith;
+          passed = record { same = omega arith };
+          small = rw j nothing-small;
+          runs = rw (i, state-back (at start)) (r .runs);
+          goings = rw j (goings-start (r .acts) s d (emitted f (scalars x) (r .acts) s (r .runs) (r .builds)) (roomy s d h));
+        }
+    on (refused n q) e h i j = absurd h
+
+-- a character's bytes, where it stands
+pub record Span (x : List ℕ) (p n : ℕ) : Type 0 where
+  pub some : 1 ≤ n
+  pub few : n ≤ 4
+  pub fits : p + n ≤ length x
+  pub short : length x ≤ 4096
+
+-- buffers as long as others
+pub record Long (d₀ d : Buffers) : Type 0 where
+  pub text-long : length (d .text-buf) ≡ length (d₀ .text-buf)
+  pub types-long : length (d .types-buf) ≡ length (d₀ .types-buf)
+  pub boundaries-long : length (d .boundaries-buf) ≡ length (d₀ .boundaries-buf)
+  pub char-pos-long : length (d .char-pos-buf) ≡ length (d₀ .char-pos-buf)
+  pub byte-pos-long : length (d .byte-pos-buf) ≡ length (d₀ .byte-pos-buf)
+  pub row-ends-long : length (d .row-ends-buf) ≡ length (d₀ .row-ends-buf)
+  pub tag-ends-long : length (d .tag-ends-buf) ≡ length (d₀ .tag-ends-buf)
+  pub tag-bytes-long : length (d .tag-bytes-buf) ≡ length (d₀ .tag-bytes-buf)
+
+-- ---- a character
+advance-of : (f : Form) (σ : State) (c : ℕ) → StepOf c (advance f (stateOf σ) c)
+unfolding advance
+advance-of f σ c = if-both (StepOf c) (eqb c 0) _ _ tt (step-of f (stateOf σ) (kind f c) c)
+
+tally-width : (a : Act) (c : ℕ) (k : Counts) → ActOf c a → tallyBy (width c) a k ≡ tally a k
+unfolding tally tallyBy bytes
+tally-width skip c k e = refl
+tally-width (letter m d) c k e = rw e
+tally-width opens c k e = refl
+tally-width (ofTag d) c k e = rw e
+
+act-bytes : (a : Act) (c : ℕ) (y : List ℕ) → ActOf c a → y ≡ encode c → Bytes a y
+act-bytes skip c y e h = tt
+act-bytes (letter m d) c y e h = h ∙ rw e
+act-bytes opens c y e h = tt
+act-bytes (ofTag d) c y e h = h ∙ rw e
+
+-- the acts of a run that went on
+record Went (a : Act) (r : Run) (l : List Act) : Type 0 where
+  rest : List Act
+  runs : r ≡ whole rest
+  is : l ≡ a ∷ rest
+
+went : (a : Act) (r : Run) (l : List Act) → push a r ≡ whole l → Went a r l
+unfolding push
+went a (whole m) l e = record { rest = m; runs = refl; is = cc }
+went a (stopped n left) l e = let z : _≡_ {A = ℕ} 0 1 = cc in absurd (omega arith)
+
+left-char : (x : List ℕ) (p v n : ℕ) → decodeAt x p ≡ Char v n → scalars (drop p x) ≡ v ∷ scalars (drop (p + n) x)
+unfolding values
+left-char x p v n e = ap values (chars-char x p v n e)
+
+module _ {f : Form} {x : List ℕ} {σ : State} {k : Counts} {p : ℕ} {d₀ d : Buffers} (h : Laying f x σ k p d₀ d) where
+  -- inside the line a character stands
+  pub lay-stands : p < length x → isChar (decodeAt x p) ≡ true
+  unfolding isChar
+  lay-stands l = on (decodeAt x p) refl
+    where
+      on : (c : Decoded) → decodeAt x p ≡ c → isChar c ≡ true
+      on (Char v n) e = refl
+      on Bad e = absurd (omega (arith, passed-bad x p Bad (sym e) refl (h .passed), h .valid))
+      on End e = absurd (omega (arith, end-past x p e))
+
+  pub lay-small : Small k 4096
+  lay-small = small-more p 4096 k (omega (arith, h .short, h .within)) (h .small)
+
+  pub lay-span : {v n : ℕ} → decodeAt x p ≡ Char v n → Span x p n
+  lay-span {v} {n} q = record { some = len-ok x p v n q .0; few = len-ok x p v n q .1; fits = char-within x p v n (h .within) q; short = h .short }
+
+  module _ {v n : ℕ} (q : decodeAt x p ≡ Char v n) {g : Stepped} (g₁ : g ≡ stepped (advance f (stateOf σ) v)) where
+    -- it is not refused
+    pub lay-never : {e : ℕ} → g ≡ Refuse e → ⊥
+    unfolding run follow stepOf
+    lay-never {e} g₂ =
+        let w : advance f (stateOf σ) v ≡ stop e = step-is _ g (Refuse e) g₁ g₂ in
+        let r : stopped e (size (v ∷ scalars (drop (p + n) x))) ≡ whole (h .left) = rw (left-char x p v n q, w) at (h .runs) in
+        let z : _≡_ {A = ℕ} 0 1 = cc in
+        omega arith
+
+    module _ {t : State} {a : acts.Act} (g₂ : g ≡ Go t a) where
+      steps : advance f (stateOf σ) v ≡ go (stateOf t) (actOf a)
+      unfolding stepOf
+      steps = step-is _ g (Go t a) g₁ g₂
+
+      act-of : ActOf v (actOf a)
+      act-of = subst (StepOf v) steps (advance-of f σ v)
+
+      goes : Went (actOf a) (run f (stateOf t) (scalars (drop (p + n) x))) (h .left)
+      unfolding run follow
+      goes = went (actOf a) _ (h .left) (rw (left-char x p v n q, steps) at (h .runs))
+
+      parts : Goings (actOf a ∷ goes .rest) k (h .s) d₀ d
+      parts = subst (λ (l : List Act). Goings l k (h .s) d₀ d) (goes .is) (h .goings)
+
+      pub lay-turning : Turning (actOf a) k x p n d
+      unfolding decodeAt
+      lay-turning = record {
+        small = lay-small;
+        some = len-ok x p v n q .0;
+        few = len-ok x p v n q .1;
+        within = char-within x p v n (h .within) q;
+        bytes = act-bytes (actOf a) v (take n (drop p x)) act-of (encode-decode (drop p x) v n q .bytes);
+        room = goings-room (actOf a) (goes .rest) k (h .s) d₀ d parts;
+      }
+
+      pub lay-go : {k′ : Counts} {e : Buffers} → Stored (λ (o : Part). o .emit (actOf a) k) k d e → k′ ≡ tallyBy n (actOf a) k → Laying f x t k′ (p + n) d₀ e
+      lay-go {k′} {e} w i =
+          let j : k′ ≡ tally (actOf a) k = i ∙ rw (width-at x p v n q) (tally-width (actOf a) v k act-of) in
+          record {
+            s = h .s;
+            left = goes .rest;
+            reads = h .reads;
+            room = h .room;
+            short = h .short;
+            valid = h .valid;
+            within = char-within x p v n (h .within) q;
+            passed = passed-char x p v n _ (sym q) refl (h .passed);
+            small = rw i (tally-small n p (actOf a) k (omega (arith, len-ok x p v n q)) (h .small));
+            runs = goes .runs;
+            goings = rw j (goings-turn (actOf a) (goes .rest) k (h .s) d₀ d parts e w);
+          }
+
+  -- ---- the line's end
+  ended : length x ≤ p → h .left ≡ []
+  unfolding run finish ending walk values
+  ended l = none (stateOf σ) (rw (drop-of-length-le x l) at (h .runs))
+    where
+      place : (q : Place) → ending f q ≡ whole (h .left) → h .left ≡ []
+      place start e = cc
+      place behind e = cc
+      place inTag e = cc
+      place (gap m) e = cc
+
+      none : (τ : reading.State) → finish f τ ≡ whole (h .left) → h .left ≡ []
+      none (at q) e = place q e
+      none (escaped q) e = place q e
+
+  over : length x ≤ p → Goings [] k (h .s) d₀ d
+  over l = subst (λ (m : List Act). Goings m k (h .s) d₀ d) (ended l) (h .goings)
+
+  pub lay-finishing : length x ≤ p → Finishing k (d .char-pos-buf) (d .byte-pos-buf) (d .row-ends-buf) (d .tag-ends-buf)
+  lay-finishing l = goings-finish k (h .s) d₀ d (over l) lay-small
+
+  pub lay-done : {c b w e : List ℕ} → length x ≤ p → Finished k (d .char-pos-buf) (d .byte-pos-buf) (d .row-ends-buf) (d .tag-ends-buf) c b w e
+      → Same (filled (read f x) d₀) (buffers (d .text-buf) (d .types-buf) (d .boundaries-buf) c b w e (d .tag-bytes-buf))
+  unfolding filled
+  lay-done l i = rw (h .reads) (goings-done k (h .s) d₀ d (over l) (roomy (h .s) d₀ (h .room)) i)
+
+  -- no buffer changes its length
+  pub lay-long : Long d₀ d
+  lay-long = record {
+    text-long = h .goings .text-going .filling .long;
+    types-long = h .goings .types-going .filling .long;
+    boundaries-long = h .goings .boundaries-going .filling .long;
+    char-pos-long = h .goings .char-pos-going .filling .long;
+    byte-pos-long = h .goings .byte-pos-going .filling .long;
+    row-ends-long = h .goings .row-ends-going .filling .long;
+    tag-ends-long = h .goings .tag-ends-going .filling .long;
+    tag-bytes-long = h .goings .tag-bytes-going .filling .long;
+  }

@@ -1,0 +1,64 @@
+// The fill of a line that is known to read to a sentence for which there is room.
+use counts::Counts;
+use reader::Form;
+use reader::State;
+use reader::Stepped;
+use types::blocks::Tables;
+ghost use Rattle.sentence.specs.Reading.{read};
+ghost use Rattle.sheet.specs.Layout.{buffers};
+ghost use Rattle.reader.specs.Flags.{formOf};
+ghost use Rattle.fill.specs.Fill.{Fits, Same, filled};
+
+// One pass over the line: its characters step the reader again, and what they do is stored.
+pub fn fill(
+    form: Form,
+    line: &[u8],
+    text: &mut [u8],
+    types: &mut [u8],
+    boundaries: &mut [u8],
+    char_pos: &mut [u16],
+    byte_pos: &mut [u16],
+    row_ends: &mut [u16],
+    tag_ends: &mut [u16],
+    tag_bytes: &mut [u8],
+)
+    requires { ⌜ Fits (read (formOf form) (now line)) (buffers (now text) (now types) (now boundaries) (now «char_pos») (now «byte_pos») (now «row_ends») (now «tag_ends») (now «tag_bytes»)) ⌝ }
+    ensures { λ _. ⌜ Same (filled (read (formOf form) (now (line .entry))) (buffers (now (text .entry)) (now (types .entry)) (now (boundaries .entry)) (now («char_pos» .entry)) (now («byte_pos» .entry)) (now («row_ends» .entry)) (now («tag_ends» .entry)) (now («tag_bytes» .entry)))) (buffers (now (text .exit)) (now (types .exit)) (now (boundaries .exit)) (now («char_pos» .exit)) (now («byte_pos» .exit)) (now («row_ends» .exit)) (now («tag_ends» .exit)) (now («tag_bytes» .exit))) ⌝ }
+{
+    let tables = Tables::new();
+    let mut state = State::new();
+    let mut counts = Counts::new();
+    let mut at = 0;
+    while at < line.len() {
+        let found = utf8::given::char_at(line, at);
+        let len = found.len;
+        match state.step(form, found.value) {
+            Stepped::Go { state: next, act } => {
+                stores::given::turn(
+                    act,
+                    counts,
+                    line,
+                    at,
+                    len,
+                    &tables.index,
+                    &tables.blocks,
+                    text,
+                    types,
+                    boundaries,
+                    char_pos,
+                    byte_pos,
+                    row_ends,
+                    tag_ends,
+                    tag_bytes,
+                );
+                state = next;
+                counts = counts::given::tally(counts, act, len);
+                at += len;
+            }
+            Stepped::Refuse(_) => {
+                return;
+            }
+        }
+    }
+    stores::given::finish(counts, char_pos, byte_pos, row_ends, tag_ends);
+}

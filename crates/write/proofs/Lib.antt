@@ -1,0 +1,2 @@
+-- `Laws` has the answers of the writers; a writer's outcome is the only one, and what a caller has of a line that was written.
+pub mod Laws

@@ -1,0 +1,177 @@
+// The writers of any sheet: each answers the length of the line that it wrote at the front of the output, or 13, or 12 at the length needed.
+use partial::given::partial_into;
+use partial::given::partial_len;
+use sentence::Refusal;
+use sheet::Number;
+use sheet::Record;
+use tokenized::given::tokenized_into;
+use tokenized::given::tokenized_len;
+ghost use mathlib.Core.Path.{_≡_};
+ghost use Rattle.sentence.specs.Reading.{tokenized, partial};
+ghost use Rattle.sentence.specs.Refusals.{refusal};
+ghost use Rattle.sheet.specs.declared.Number.the-variants.{Refused};
+ghost use Rattle.sheet.specs.Layout.{buffers};
+ghost use Rattle.write.specs.Answers.{Written};
+
+// 13: the record and the buffers are no sheet.
+fn no_sheet() -> Number
+    ensures { λ a. ⌜ a ≡ Refused (refusal 13 0) ⌝ }
+{
+    Number::Refused(Refusal {
+        number: 13,
+        place: 0,
+    })
+}
+
+// 12: the output has too little room for the line, whose length is the place.
+fn too_short(needed: usize) -> Number
+    ensures { λ a. ⌜ a ≡ Refused (refusal 12 needed) ⌝ }
+{
+    Number::Refused(Refusal {
+        number: 12,
+        place: needed,
+    })
+}
+
+// The tokens, joined by one space, each with all columns of its last character.
+pub fn write_tokenized_text(
+    r: Record,
+    text: &[u8],
+    types: &[u8],
+    boundaries: &[u8],
+    char_pos: &[u16],
+    byte_pos: &[u16],
+    row_ends: &[u16],
+    tag_ends: &[u16],
+    tag_bytes: &[u8],
+    out: &mut [u8],
+) -> Number
+    ensures { λ a. ⌜ Written tokenized r (buffers (now (text .entry)) (now (types .entry)) (now (boundaries .entry)) (now («char_pos» .entry)) (now («byte_pos» .entry)) (now («row_ends» .entry)) (now («tag_ends» .entry)) (now («tag_bytes» .entry))) (now (out .entry)) a (now (out .exit)) ⌝ }
+{
+    if !sheet::check(
+        r,
+        text,
+        types,
+        boundaries,
+        char_pos,
+        byte_pos,
+        row_ends,
+        tag_ends,
+        tag_bytes,
+    ) {
+        return no_sheet();
+    }
+    let needed = tokenized_len(
+        r,
+        text,
+        types,
+        boundaries,
+        char_pos,
+        byte_pos,
+        row_ends,
+        tag_ends,
+        tag_bytes,
+    );
+    if out.len() < needed {
+        return too_short(needed);
+    }
+    let n = tokenized_into(
+        r,
+        text,
+        types,
+        boundaries,
+        char_pos,
+        byte_pos,
+        row_ends,
+        tag_ends,
+        tag_bytes,
+        out,
+    );
+    Number::Is(n)
+}
+
+// Each character, its tags, and its boundary.
+pub fn write_partial_annotation_text(
+    r: Record,
+    text: &[u8],
+    types: &[u8],
+    boundaries: &[u8],
+    char_pos: &[u16],
+    byte_pos: &[u16],
+    row_ends: &[u16],
+    tag_ends: &[u16],
+    tag_bytes: &[u8],
+    out: &mut [u8],
+) -> Number
+    ensures { λ a. ⌜ Written partial r (buffers (now (text .entry)) (now (types .entry)) (now (boundaries .entry)) (now («char_pos» .entry)) (now («byte_pos» .entry)) (now («row_ends» .entry)) (now («tag_ends» .entry)) (now («tag_bytes» .entry))) (now (out .entry)) a (now (out .exit)) ⌝ }
+{
+    if !sheet::check(
+        r,
+        text,
+        types,
+        boundaries,
+        char_pos,
+        byte_pos,
+        row_ends,
+        tag_ends,
+        tag_bytes,
+    ) {
+        return no_sheet();
+    }
+    let needed = partial_len(
+        r,
+        text,
+        types,
+        boundaries,
+        char_pos,
+        byte_pos,
+        row_ends,
+        tag_ends,
+        tag_bytes,
+    );
+    if out.len() < needed {
+        return too_short(needed);
+    }
+    let n = partial_into(
+        r,
+        text,
+        types,
+        boundaries,
+        char_pos,
+        byte_pos,
+        row_ends,
+        tag_ends,
+        tag_bytes,
+        out,
+    );
+    Number::Is(n)
+}
+
+// The note key, for finding duplicates: the partial line.
+pub fn note_key(
+    r: Record,
+    text: &[u8],
+    types: &[u8],
+    boundaries: &[u8],
+    char_pos: &[u16],
+    byte_pos: &[u16],
+    row_ends: &[u16],
+    tag_ends: &[u16],
+    tag_bytes: &[u8],
+    out: &mut [u8],
+) -> Number
+    ensures { λ a. ⌜ Written partial r (buffers (now (text .entry)) (now (types .entry)) (now (boundaries .entry)) (now («char_pos» .entry)) (now («byte_pos» .entry)) (now («row_ends» .entry)) (now («tag_ends» .entry)) (now («tag_bytes» .entry))) (now (out .entry)) a (now (out .exit)) ⌝ }
+{
+    write_partial_annotation_text(
+        r,
+        text,
+        types,
+        boundaries,
+        char_pos,
+        byte_pos,
+        row_ends,
+        tag_ends,
+        tag_bytes,
+        out,
+    )
+}
