@@ -1,14 +1,14 @@
 -- Escaping a part of a slice, byte by byte; escaping characters is escaping their bytes. Assumes nothing.
 use Prim.Native.Nat.{ℕ, zero, suc, _+_, _-_, _*_, _≤_, _<_}
 use mathlib.Core.Path.{_≡_, refl, sym, ap, _∙_}
-use mathlib.Core.Bool.{Bool, true, false, _||_, _&&_}
+use mathlib.Core.Bool.{Bool, true, false}
 use mathlib.Core.List.{List, [], _∷_, _++_}
 use native.Mathlib.Omega.{arith}
-use lib.Dec.{eqb}
+use borrow.Author.Tests.{ne-eqb}
 use lib.ListN.{length, getD, take, drop, replicate}
 use Rattle.laws.specs.Put.{left-step, left-none}
 use Rattle.laws.specs.If.{if_then_else_}
-use Rattle.sentence.specs.Sentence.{none, word, unknown}
+use Rattle.sentence.specs.Sentence.{none}
 use Rattle.sentence.specs.Reading.{Form, Kind, mark, slash, back, plain, kind}
 use Rattle.sentence.specs.Writing.{escapeAs, escape}
 use Rattle.escape.specs.Escape.{formOf, meant}
@@ -28,25 +28,40 @@ as-plain slash b e = cc
 as-plain back b e = cc
 as-plain plain b e = refl
 
--- the test on a byte finds what has a meaning
-pub is-meant : (p : Bool) (b : ℕ) → (((eqb b 32 || (p && (eqb b 45 || eqb b 124))) || eqb b 47) || eqb b 92) ≡ meant (kind (formOf p) b)
+-- what both forms escape
+pub meant-space : (p : Bool) (b : ℕ) → b ≡ 32 → true ≡ meant (kind (formOf p) b)
 unfolding kind meant if_then_else_
-is-meant true b = on (eqb b 32) (eqb b 45) (eqb b 124) (eqb b 47) (eqb b 92)
-  where
-    on : (u x y v w : Bool) → (((u || (true && (x || y))) || v) || w) ≡ meant (if u then mark unknown else if x then mark none else if y then mark word else if v then slash else if w then back else plain)
-    on true x y v w = refl
-    on false true y v w = refl
-    on false false true v w = refl
-    on false false false true w = refl
-    on false false false false true = refl
-    on false false false false false = refl
-is-meant false b = on (eqb b 32) (eqb b 47) (eqb b 92)
-  where
-    on : (u v w : Bool) → (((u || (false && (eqb b 45 || eqb b 124))) || v) || w) ≡ meant (if u then mark word else if v then slash else if w then back else plain)
-    on true v w = refl
-    on false true w = refl
-    on false false true = refl
-    on false false false = refl
+meant-space true b e = rw e
+meant-space false b e = rw e
+
+pub meant-slash : (p : Bool) (b : ℕ) → b ≡ 47 → true ≡ meant (kind (formOf p) b)
+unfolding kind meant if_then_else_
+meant-slash true b e = rw e
+meant-slash false b e = rw e
+
+pub meant-back : (p : Bool) (b : ℕ) → b ≡ 92 → true ≡ meant (kind (formOf p) b)
+unfolding kind meant if_then_else_
+meant-back true b e = rw e
+meant-back false b e = rw e
+
+-- what only the partial form escapes
+pub meant-dash : (p : Bool) (b : ℕ) → b ≡ 45 → p ≡ meant (kind (formOf p) b)
+unfolding kind meant if_then_else_
+meant-dash true b e = rw e
+meant-dash false b e = rw e
+
+pub meant-bar : (p : Bool) (b : ℕ) → b ≡ 124 → p ≡ meant (kind (formOf p) b)
+unfolding kind meant if_then_else_
+meant-bar true b e = rw e
+meant-bar false b e = rw e
+
+-- and nothing else
+pub meant-none : (p : Bool) (b : ℕ) → (b ≡ 32 → ⊥) → (b ≡ 47 → ⊥) → (b ≡ 92 → ⊥) → (b ≡ 45 → ⊥) → (b ≡ 124 → ⊥) → false ≡ meant (kind (formOf p) b)
+unfolding kind meant if_then_else_
+meant-none true b u v w x y = rw (ne-eqb b 32 u, ne-eqb b 45 x, ne-eqb b 124 y, ne-eqb b 47 v, ne-eqb b 92 w)
+meant-none false b u v w x y = rw (ne-eqb b 32 u, ne-eqb b 47 v, ne-eqb b 92 w)
+
+pub ruleset meanings = (meant-space, meant-slash, meant-back, meant-dash, meant-bar, meant-none)
 
 -- the next byte of a part, as the test on it has come out
 module _ (f : Form) (to i : ℕ) (l : List ℕ) (t : Bool) (h : i < to) (k : to ≤ length l) (e : t ≡ meant (kind f (getD l i 0))) where

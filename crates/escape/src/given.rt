@@ -11,7 +11,22 @@ ghost use Rattle.escape.specs.Wrote.{Wrote};
 fn has_meaning(in_partial: bool, b: u8) -> bool
     ensures { λ r. ⌜ r ≡ meant (kind (formOf «in_partial») b) ⌝ }
 {
-    (b == 32) | (in_partial & ((b == 45) | (b == 124))) | (b == 47) | (b == 92)
+    if b == 32 {
+        return true;
+    }
+    if b == 47 {
+        return true;
+    }
+    if b == 92 {
+        return true;
+    }
+    if b == 45 {
+        return in_partial;
+    }
+    if b == 124 {
+        return in_partial;
+    }
+    false
 }
 
 // How many bytes a part of `src` takes where it is escaped.

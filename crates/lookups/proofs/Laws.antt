@@ -51,7 +51,7 @@ pub pos-good : (g good : Bool) (s : Sentence) (p : ℕ) (a : Number) → g ≡ g
 pos-good g good s p a e h f = let k : good ≡ true = sym e ∙ not-false g h in rw k f
 
 -- ---- a number that stands in a list stands at an index
-found-at : (l : List ℕ) (i p : ℕ) → i < length l → getD l i 0 ≡ p → found p l ≡ true
+pub found-at : (l : List ℕ) (i p : ℕ) → i < length l → getD l i 0 ≡ p → found p l ≡ true
 unfolding found
 found-at [] i p h e = absurd (omega arith)
 found-at (q ∷ l) zero p h e = rw (eq-eqb p q (sym e))

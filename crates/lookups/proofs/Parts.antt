@@ -3,20 +3,24 @@ use Prim.Native.Nat.{ℕ, zero, suc, _+_, _-_, _≤_, _<_}
 use native.Mathlib.Decide.{decLt}
 use native.Mathlib.Omega.{arith}
 use mathlib.Core.Path.{_≡_, refl, sym, ap, _∙_}
+use mathlib.Core.Bool.{true}
 use mathlib.Core.List.{List, [], _∷_, _++_, map}
-use borrow.Author.Tests.{le-leb}
+use borrow.Author.Tests.{le-leb, le-ltb}
 use lib.ListN.{length, take, drop, getD, replicate, List·getD-append, List·getD-eq-default}
 use lib.Seq.{getD-append-add}
 use Rattle.laws.specs.If.{if_then_else_}
 use Rattle.utf8.specs.Utf8.{encodes, size}
-use Rattle.sentence.specs.Sentence.{Tag, Sentence, text, rows, listed, rowBytes, pad, table}
+use Rattle.sentence.specs.Sentence.{Tag, Sentence, text, rows, charPositions, bytePositions, listed, rowBytes, pad, table}
 use Rattle.sentence.specs.Writing.{surface}
+use Rattle.sentence.specs.Refusals.{verdict}
 use Rattle.sheet.specs.declared.Record.{Record}
+use Rattle.sheet.specs.declared.Number.the-variants as number
 use Rattle.sheet.specs.declared.Part.the-variants as part
 use Rattle.sheet.specs.Layout.{Buffers, tagsOf, Holds}
-use Rattle.sheet.proofs.Look.{bounds, bytes-before, bytes-more, text-part, tag-part, tag-inside, tag-next, bytes-among, tag-in-row}
-use Rattle.lookups.specs.Answers.{surfacePart, cell, cellStart, tagPart, bytesOf}
-use Rattle.lookups.proofs.Laws.{start-sized, row-at}
+use Rattle.sheet.proofs.Held.{length-starts}
+use Rattle.sheet.proofs.Look.{start-is, number-is, bounds, bytes-before, bytes-more, text-part, tag-part, tag-inside, tag-next, bytes-among, tag-in-row}
+use Rattle.lookups.specs.Answers.{startAt, strToCharPos, surfacePart, cell, cellStart, tagPart, bytesOf}
+use Rattle.lookups.proofs.Laws.{found-at, start-sized, row-at}
 
 -- the bytes of a part that is in range
 in-range : (l : List ℕ) (b e : ℕ) → b ≤ e → e ≤ length l → bytesOf l (part.Bytes b e) ≡ take (e - b) (drop b l)
@@ -63,6 +67,19 @@ cell-of-table s row column h =
     mapped [] i k = absurd (omega arith)
     mapped (r ∷ rs) zero k = refl
     mapped (r ∷ rs) (suc i) k = mapped rs i (omega arith)
+
+-- a character's byte position leads back to it
+pub positions-back : (s : Sentence) (i : ℕ) → i ≤ length (text s) → strToCharPos true s (startAt s i) ≡ number.Is i
+unfolding strToCharPos verdict if_then_else_
+positions-back s i h =
+    let p : startAt s i ≡ size (take i (text s)) = start-is 0 (text s) i h ∙ omega arith in
+    let n : getD (bytePositions (text s)) (size (take i (text s))) 0 ≡ i = number-is 0 (text s) i h ∙ omega arith in
+    rw (
+      le-ltb (size (text s)) (startAt s i) (omega (arith, bytes-before (text s) i)),
+      found-at (charPositions (text s)) i (startAt s i) (omega (arith, length-starts 0 (text s))) refl,
+      p,
+      n,
+    )
 
 module _ {r : Record} {d : Buffers} {s : Sentence} (h : Holds r d s) where
   -- the bytes of a surface

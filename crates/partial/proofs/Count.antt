@@ -1,17 +1,18 @@
 -- How long the partial line of a sheet is: its text, its signs, its slashes, and the bytes of its tags, escaped. Assumes nothing.
 use Prim.Native.Nat.{ℕ, zero, suc, _+_, _-_, _*_, _≤_, _<_}
 use mathlib.Core.Path.{_≡_, refl, sym, ap, _∙_}
-use mathlib.Core.List.{List, [], _∷_, _++_, map, append-nil}
+use mathlib.Core.List.{List, [], _∷_, append-nil}
+use native.Mathlib.Nat.{mul-le-mul}
 use native.Mathlib.Omega.{arith}
-use lib.ListN.{length, take, drop, getD, replicate, length-append, length-take}
+use lib.ListN.{length, take, drop, getD, length-append, length-take}
 use Rattle.laws.specs.If.{if_then_else_}
 use Rattle.laws.specs.All.{All}
 use Rattle.utf8.specs.Utf8.{width, encodes, size}
 use Rattle.utf8.proofs.Codec.{length-encode, encodes-append}
-use Rattle.sentence.specs.Sentence.{Tag, Mark, none, word, unknown, Cells, final, cell, textOf, marksOf, rowsOf, text, marks, rows, pad, Row, CellsOf}
-use Rattle.sentence.specs.Reading.{Form, partial}
+use Rattle.sentence.specs.Sentence.{Tag, Mark, none, word, unknown, Cells, final, cell, textOf, marksOf, rowsOf, text, marks, rows, Row, CellsOf}
+use Rattle.sentence.specs.Reading.{partial}
 use Rattle.sentence.specs.Writing.{escape, writeTags, sign, shown, writePartial, line, written}
-use Rattle.sentence.proofs.Trips.{escape-append, pad-length}
+use Rattle.sentence.proofs.Trips.{escape-append}
 use Rattle.sheet.specs.declared.Record.{Record}
 use Rattle.sheet.specs.Layout.{Buffers, tagsOf, bytesOf, markOf, spell, Sheet}
 use Rattle.sheet.proofs.Held.{rows-held, columns-held, tag-bytes-held}
@@ -19,29 +20,12 @@ use Rattle.sheet.proofs.Look.{left, Bounds, bounds, bytes-joined, mark-word, ma
 use Rattle.lookups.specs.Answers.{edge}
 use Rattle.lookups.proofs.Laws.{row-at}
 use Rattle.escape.proofs.Bytes.{escape-long}
-use Rattle.escape.proofs.Encoded.{encodes-tags}
+use Rattle.pieces.specs.Pieces.{mostOf}
 use Rattle.pieces.proofs.Tags.{edge-next}
+use Rattle.pieces.proofs.Room.{limited, most-few, tags-long, padded-long}
 use Rattle.partial.specs.Line.{shownCount, slashes}
 
--- ---- tags as they are written
-tags-long : (f : Form) (ts : List Tag) → length (encodes (writeTags f ts)) ≡ length ts + length (escape f (bytesOf ts))
-unfolding writeTags bytesOf escape
-tags-long f ts = ap length (encodes-tags f ts) ∙ on ts
-  where
-    on : (ts : List Tag) → length (writeTags f (map encodes ts)) ≡ length ts + length (escape f (bytesOf ts))
-    on [] = refl
-    on (t ∷ ts) = rw (escape-append f (encodes t) (bytesOf ts), length-append, length-append) (omega (arith, on ts))
-
-bytes-absent : (r : List Tag) (k : ℕ) → bytesOf (r ++ replicate k []) ≡ bytesOf r
-unfolding bytesOf encodes
-bytes-absent [] zero = refl
-bytes-absent [] (suc k) = bytes-absent [] k
-bytes-absent (t ∷ r) k = rw (bytes-absent r k)
-
-padded-long : (f : Form) (n : ℕ) (r : List Tag) → length r ≤ n → length (encodes (writeTags f (pad n r))) ≡ n + length (escape f (bytesOf r))
-unfolding pad
-padded-long f n r h = tags-long f (pad n r) ∙ rw (bytes-absent r (n - length r)) (omega (arith, pad-length n r h))
-
+-- ---- tags before a boundary
 shown-long : (n : ℕ) (m : Mark) (r : List Tag) → Row n r → length (encodes (writeTags partial (shown n m r))) ≡ shownCount n m r + length (escape partial (bytesOf r))
 unfolding shown shownCount
 shown-long n none r h = rw (h .is-cut) (tags-long partial r)
@@ -64,19 +48,19 @@ cells-long n (cell c r m u) h =
     rw (length-append, length-encode, encodes-append (writeTags partial (shown n m r)) (sign m ∷ writePartial n u), length-append w _, length-append, length-encode, sign-wide m, bytes-joined r (tagsOf (rowsOf u)), escape-append partial (bytesOf r) (bytesOf (tagsOf (rowsOf u))), length-append (escape partial (bytesOf r)))
     (omega (arith, shown-long n m r (h .1), cells-long n u (h .2)))
 
--- no row lists more than 4,096 tags, nor does it when it is filled up
-slashes-few : (n : ℕ) (ms : List Mark) (rs : List (List Tag)) → n ≤ 4096 → All (Row n) rs → slashes n ms rs ≤ 4096 * (length ms + 1)
+-- no character has more slashes than columns
+slashes-few : (n : ℕ) (ms : List Mark) (rs : List (List Tag)) → All (Row n) rs → slashes n ms rs ≤ (length ms + 1) * n
 unfolding slashes shownCount
-slashes-few n [] rs h k = omega arith
-slashes-few n (m ∷ ms) [] h k = few m (slashes-few n ms [] h tt)
+slashes-few n [] rs k = omega arith
+slashes-few n (m ∷ ms) [] k = few m (slashes-few n ms [] tt)
   where
-    few : (m : Mark) → slashes n ms [] ≤ 4096 * (length ms + 1) → shownCount n m [] + slashes n ms [] ≤ 4096 * (length (m ∷ ms) + 1)
+    few : (m : Mark) → slashes n ms [] ≤ (length ms + 1) * n → shownCount n m [] + slashes n ms [] ≤ (length (m ∷ ms) + 1) * n
     few none i = omega arith
     few word i = omega arith
     few unknown i = omega arith
-slashes-few n (m ∷ ms) (r ∷ rs) h k = few m (k .0 .fits) (slashes-few n ms rs h (k .1))
+slashes-few n (m ∷ ms) (r ∷ rs) k = few m (k .0 .fits) (slashes-few n ms rs (k .1))
   where
-    few : (m : Mark) → length r ≤ n → slashes n ms rs ≤ 4096 * (length ms + 1) → shownCount n m r + slashes n ms rs ≤ 4096 * (length (m ∷ ms) + 1)
+    few : (m : Mark) → length r ≤ n → slashes n ms rs ≤ (length ms + 1) * n → shownCount n m r + slashes n ms rs ≤ (length (m ∷ ms) + 1) * n
     few none l i = omega arith
     few word l i = omega arith
     few unknown l i = omega arith
@@ -96,9 +80,15 @@ module _ {r : Record} {d : Buffers} (h : Sheet r d) where
   columns-same : slashesIn ≡ slashes (spell r d .columns) (marks (spell r d)) (rows (spell r d))
   columns-same = ap (λ (n : ℕ). slashes n (marks (spell r d)) (rows (spell r d))) (columns-held h)
 
+  slashes-most : slashesIn ≤ r .n * r .columns
+  slashes-most =
+      let b = bounds h in
+      let n : length (marks (spell r d)) + 1 ≡ r .n = omega arith in
+      let k = rw n at (slashes-few (spell r d .columns) (marks (spell r d)) (rows (spell r d)) (rows-held h)) in
+      omega (arith, columns-same, ap (λ (c : ℕ). r .n * c) (columns-held h))
+
   pub slashes-small : slashesIn ≤ 4096 * 4096
-  slashes-small =
-      omega (arith, bounds h, columns-same, slashes-few (spell r d .columns) (marks (spell r d)) (rows (spell r d)) (omega (arith, bounds h)) (rows-held h))
+  slashes-small = omega (arith, slashes-most, mul-le-mul {m₂ = 4096} (limited h .n-few) (limited h .columns-few))
 
   slash-next : (i : ℕ) → i < r .n - 1
       → slashes (r .columns) (drop i (marks (spell r d))) (drop i (rows (spell r d)))
@@ -114,9 +104,16 @@ module _ {r : Record} {d : Buffers} (h : Sheet r d) where
         let g = ap (λ (l : List ℕ). length (escape partial l)) (tag-bytes-held h .is) in
         omega (arith, bounds h, columns-same, cells-long (spell r d .columns) (spell r d .cells) (h .formed .cells-are))
 
-    -- which is small
+    -- within the bound, which is small
+    parts-most : r .b + (r .n - 1) + u + t ≤ mostOf r
+    unfolding mostOf
+    parts-most = omega (arith, bounds h, slashes-most, escape-long partial (take (r .g) (d .tag-bytes-buf)), length-take (r .g) (d .tag-bytes-buf))
+
     pub parts-small : r .b + (r .n - 1) + u + t ≤ 20000000
-    parts-small = omega (arith, bounds h, slashes-small, escape-long partial (take (r .g) (d .tag-bytes-buf)), length-take (r .g) (d .tag-bytes-buf))
+    parts-small = omega (arith, parts-most, most-few (limited h))
+
+  pub line-most : length (written partial (spell r d)) ≤ mostOf r
+  line-most = omega (arith, line-long refl refl, parts-most refl refl)
 
 -- ---- a loop that counts the slashes: it is at the i-th character, whose row starts at the k-th tag
 pub record Slashing (r : Record) (d : Buffers) (sum k i : ℕ) : Type 0 where

@@ -1,6 +1,7 @@
 // Internal: each function assumes a checked sheet, and the writer room for the line.
 use escape::given::escaped_len;
 use pieces::given::char_into;
+use pieces::given::most;
 use pieces::given::wide;
 use sheet::Record;
 ghost use Prim.Native.Nat.{_+_, _-_, _≤_, _<_};
@@ -12,6 +13,7 @@ ghost use Rattle.sentence.specs.Sentence.{marks, rows};
 ghost use Rattle.sentence.specs.Reading.{partial};
 ghost use Rattle.sentence.specs.Writing.{sign, written};
 ghost use Rattle.sheet.specs.Layout.{buffers, markOf, spell, Sheet};
+ghost use Rattle.pieces.specs.Pieces.{shortOf};
 ghost use Rattle.escape.specs.Wrote.{Lined};
 ghost use Rattle.partial.specs.Line.{slashes};
 
@@ -101,6 +103,42 @@ pub fn partial_len(
         tag_bytes,
     );
     r.b + (r.n - 1) + slashes + tags
+}
+
+// How long the line is, where there is less room, and else 0; it is measured only where the bound leaves that open.
+pub fn partial_short(
+    r: Record,
+    text: &[u8],
+    types: &[u8],
+    boundaries: &[u8],
+    char_pos: &[u16],
+    byte_pos: &[u16],
+    row_ends: &[u16],
+    tag_ends: &[u16],
+    tag_bytes: &[u8],
+    room: usize,
+) -> usize
+    requires { ⌜ Sheet r (buffers (now text) (now types) (now boundaries) (now «char_pos») (now «byte_pos») (now «row_ends») (now «tag_ends») (now «tag_bytes»)) ⌝ }
+    ensures { λ a. ⌜ a ≡ shortOf room (length (written partial (spell r (buffers (now (text .entry)) (now (types .entry)) (now (boundaries .entry)) (now («char_pos» .entry)) (now («byte_pos» .entry)) (now («row_ends» .entry)) (now («tag_ends» .entry)) (now («tag_bytes» .entry)))))) ⌝ }
+{
+    if most(r) <= room {
+        return 0;
+    }
+    let needed = partial_len(
+        r,
+        text,
+        types,
+        boundaries,
+        char_pos,
+        byte_pos,
+        row_ends,
+        tag_ends,
+        tag_bytes,
+    );
+    if room < needed {
+        return needed;
+    }
+    0
 }
 
 // The line, at the front of the output.

@@ -4,22 +4,20 @@ use mathlib.Core.Path.{_≡_, refl, _∙_}
 use mathlib.Core.List.{List, [], _∷_, map}
 use native.Mathlib.Nat.{add-zero}
 use native.Mathlib.Omega.{arith}
-use lib.ListN.{length, take, drop, getD, length-take, length-drop}
+use lib.ListN.{length, getD}
 use Rattle.utf8.specs.Utf8.{encodes, size}
 use Rattle.utf8.proofs.Codec.{encodes-append}
 use Rattle.sentence.specs.Sentence.{Tag, Sentence, text, rows, pad}
 use Rattle.sentence.specs.Reading.{Form, tokenized}
-use Rattle.sentence.specs.Writing.{token, surface, escape, writeTags, writeToken}
+use Rattle.sentence.specs.Writing.{token, surface, writeTags, writeToken}
 use Rattle.sheet.specs.declared.Record.{Record}
 use Rattle.sheet.specs.Layout.{Buffers, tagsOf, Holds}
 use Rattle.sheet.proofs.Held.{columns-held}
 use Rattle.sheet.proofs.Look.{bounds, part-left, bytes-before, bytes-more, char-pos-is, text-part, tag-part, tag-end-is, tag-next, tag-inside, tag-in-row, row-fits}
 use Rattle.lookups.specs.Answers.{edge}
 use Rattle.lookups.proofs.Laws.{tag-edge, row-at}
-use Rattle.escape.proofs.Bytes.{escape-long}
 use Rattle.escape.proofs.Encoded.{encodes-escape, encodes-tags, encodes-pad}
 use Rattle.pieces.specs.Pieces.{pieceAt, piecesAt, rowAt, rowLine, Lie, RowLies, TextLies, textAt, tokenLine}
-use Rattle.pieces.proofs.Lengths.{row-long, token-long}
 
 pieces-are : (es d : List ℕ) (k : ℕ) (row : List Tag) → ((c : ℕ) → c < length row → pieceAt es d (k + c) ≡ encodes (getD row c [])) → piecesAt es d k (length row) ≡ map encodes row
 unfolding piecesAt
@@ -79,29 +77,6 @@ module _ {r : Record} {d : Buffers} {s : Sentence} (h : Holds r d s) where
   -- what is written of it
   pub row-line : (f : Form) (n i : ℕ) → i < r .n → rowLine f n (rowAt (d .row-ends-buf) (d .tag-ends-buf) (d .tag-bytes-buf) i) ≡ encodes (writeTags f (pad n (getD (rows s) i [])))
   row-line f n i l = rw (row-is i l, ← (encodes-pad n (getD (rows s) i [])), encodes-tags)
-
-  -- ---- how long they are
-  part-small : (l : List ℕ) (x y : ℕ) → y ≤ 65535 → length (escape tokenized (drop x (take y l))) ≤ 131070
-  part-small l x y k = omega (arith, escape-long tokenized (drop x (take y l)), length-drop x (take y l), length-take y l)
-
-  pub token-small : (b e : ℕ) → b ≤ e → e ≤ r .n → 1 ≤ e
-      → length (tokenLine (r .columns) (d .text-buf) (d .char-pos-buf) (d .row-ends-buf) (d .tag-ends-buf) (d .tag-bytes-buf) b e) ≤ 270000
-  token-small b e k l m =
-      let i = e - 1 in
-      let first = edge (d .row-ends-buf) i in
-      let last = getD (d .row-ends-buf) i 0 in
-      let a = row-at h i (omega arith) in
-      let x = edge (d .tag-ends-buf) first in
-      let y = edge (d .tag-ends-buf) last in
-      let long = row-long (d .row-ends-buf) (d .tag-ends-buf) (d .tag-bytes-buf) i first last x y refl refl refl refl (row-lies i (omega arith)) (r .columns) refl (row-narrow i (omega arith)) in
-      omega (
-        arith,
-        bounds h,
-        token-long (r .columns) (d .text-buf) (d .char-pos-buf) (d .row-ends-buf) (d .tag-ends-buf) (d .tag-bytes-buf) b e _ _ refl refl refl refl,
-        long,
-        part-small (d .text-buf) (getD (d .char-pos-buf) b 0) (getD (d .char-pos-buf) e 0) (omega (arith, bounds h, char-pos-is h e l, bytes-before (text s) e)),
-        part-small (d .tag-bytes-buf) x y (omega (arith, bounds h, tag-edge h last (a .last-few), tag-inside h last (a .last-few))),
-      )
 
   -- the token from b up to e
   pub token-line : (b e : ℕ) → b ≤ e → e ≤ r .n → 1 ≤ e

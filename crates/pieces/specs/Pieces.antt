@@ -1,10 +1,13 @@
 -- Parts of a buffer that are told by their ends: the tags of tag bytes, and the rows of tags.
-use Prim.Native.Nat.{ℕ, zero, suc, _+_, _-_, _≤_, _<_}
+use Prim.Native.Nat.{ℕ, zero, suc, _+_, _-_, _*_, _≤_, _<_}
 use mathlib.Core.List.{List, [], _∷_, _++_}
+use lib.Dec.{ltb}
 use lib.ListN.{length, take, drop, getD}
+use Rattle.laws.specs.If.{if_then_else_}
 use Rattle.sentence.specs.Sentence.{Tag, pad}
 use Rattle.sentence.specs.Reading.{Form, tokenized, partial}
 use Rattle.sentence.specs.Writing.{escape, writeTags}
+use Rattle.sheet.specs.declared.Record.{Record}
 use Rattle.lookups.specs.Answers.{edge}
 
 -- the k-th part of d
@@ -54,3 +57,19 @@ charLine n text ps rs es d i = textAt ps text i (i + 1) ++ rowLine partial n (ro
 -- the characters from b up to e as a token of n columns
 abbrev pub tokenLine : ℕ → List ℕ → List ℕ → List ℕ → List ℕ → List ℕ → ℕ → ℕ → List ℕ
 tokenLine n text ps rs es d b e = escape tokenized (textAt ps text b e) ++ rowLine tokenized n (rowAt rs es d (e - 1))
+
+-- ---- room for a line
+-- no line of a sheet is longer: every byte escaped, all columns of every character, and a sign or a space behind it
+unfoldable pub mostOf : Record → ℕ
+mostOf r = 2 * r .b + r .n * (r .columns + 1) + 2 * r .g
+
+-- the limits of a record that the bound is reckoned within
+pub record Limited (r : Record) : Type 0 where
+  pub n-few : r .n ≤ 4096
+  pub b-few : r .b ≤ 4096
+  pub columns-few : r .columns ≤ 4096
+  pub g-few : r .g ≤ 65535
+
+-- the length needed where there is less room, and else 0
+unfoldable pub shortOf : ℕ → ℕ → ℕ
+shortOf room n = if ltb room n then n else 0

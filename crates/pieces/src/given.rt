@@ -4,6 +4,7 @@ use escape::given::copy_escaped;
 use escape::given::escaped_len;
 use escape::given::repeat;
 use lookups::given::edge;
+use sheet::Record;
 ghost use Prim.Native.Nat.{_+_, _-_, _^_, _≤_, _<_};
 ghost use mathlib.Core.Path.{_≡_};
 ghost use lib.ListN.{length, getD};
@@ -12,7 +13,7 @@ ghost use Rattle.sentence.specs.Writing.{writeTags};
 ghost use Rattle.lookups.specs.Answers.{edge};
 ghost use Rattle.escape.specs.Escape.{formOf};
 ghost use Rattle.escape.specs.Wrote.{Wrote};
-ghost use Rattle.pieces.specs.Pieces.{piecesAt, rowAt, rowLine, Lie, RowLies, TextLies, charLine, tokenLine};
+ghost use Rattle.pieces.specs.Pieces.{piecesAt, rowAt, rowLine, Lie, RowLies, TextLies, charLine, tokenLine, Limited, mostOf};
 
 // A position or an end as a number of bytes.
 pub fn wide(x: u16) -> usize
@@ -144,4 +145,12 @@ pub fn token_len(
     let to = wide(char_pos[e]);
     let n = escaped_len(false, text, from, to);
     n + row_len(row_ends, tag_ends, tag_bytes, e - 1, columns)
+}
+
+// A length that no line of the sheet exceeds.
+pub fn most(r: Record) -> usize
+    requires { ⌜ Limited r ⌝ }
+    ensures { λ a. ⌜ a ≡ mostOf r ⌝ }
+{
+    2 * r.b + r.n * (r.columns + 1) + 2 * r.g
 }

@@ -1,17 +1,16 @@
 -- The tokenized line of a sheet, token by token, and the loops that measure and write it. Assumes nothing.
-use Prim.Native.Nat.{ℕ, _+_, _-_, _*_, _^_, _≤_, _<_}
+use Prim.Native.Nat.{ℕ, _+_, _-_, _^_, _≤_, _<_}
 use mathlib.Core.Path.{_≡_, refl, sym, ap, _∙_}
 use mathlib.Core.Bool.{Bool, true, false}
-use mathlib.Core.List.{List, [], _∷_, _++_, map, append-nil}
+use mathlib.Core.List.{List, [], _∷_, _++_, map}
 use native.Mathlib.Omega.{arith}
 use lib.ListN.{length, getD, length-append}
-use Rattle.utf8.specs.Utf8.{encode, encodes}
+use Rattle.utf8.specs.Utf8.{encodes}
 use Rattle.utf8.proofs.Codec.{encodes-append}
-use Rattle.laws.specs.If.{if_then_else_}
 use Rattle.sentence.specs.Sentence.{Sentence, marks}
 use Rattle.sentence.specs.Reading.{tokenized}
-use Rattle.sentence.specs.Writing.{token, writeToken, joined, line, written, nextToken, done}
-use Rattle.sentence.proofs.Tokens.{onward, onward-start, done-onward}
+use Rattle.sentence.specs.Writing.{token, writeToken, line, written, nextToken, done}
+use Rattle.sentence.proofs.Tokens.{onward, done-onward}
 use Rattle.sheet.specs.declared.Record.{Record}
 use Rattle.sheet.specs.Layout.{Buffers, spell, Sheet}
 use Rattle.tokens.specs.declared.Token.{Token as Span}
@@ -23,32 +22,18 @@ use Rattle.tokens.proofs.Held.{marks-held, bounded-held}
 use Rattle.lookups.specs.Answers.{edge}
 use Rattle.escape.specs.Wrote.{Wrote, Lined, lined, Writing, write-start, write-part, write-fits, write-done}
 use Rattle.pieces.specs.Pieces.{RowLies, TextLies, tokenLine}
-use Rattle.pieces.proofs.Held.{text-lies, row-lies, row-narrow, token-small, token-line}
+use Rattle.pieces.proofs.Held.{text-lies, row-lies, row-narrow, token-line}
+use Rattle.pieces.proofs.Room.{limited, most-few}
 use Rattle.tokenized.specs.Gaps.{gap, spaced}
-
--- ---- tokens behind spaces are tokens joined by them
-joined-spaced : (w : List ℕ) (ws : List (List ℕ)) → joined (w ∷ ws) ≡ w ++ spaced true ws
-unfolding joined spaced gap
-joined-spaced w [] = sym (append-nil w)
-joined-spaced w (v ∷ ws) = rw (joined-spaced v ws)
-
-spaced-joined : (ws : List (List ℕ)) → spaced false ws ≡ joined ws
-unfolding spaced gap joined
-spaced-joined [] = refl
-spaced-joined (w ∷ ws) = sym (joined-spaced w ws)
-
-encodes-gap : (b : Bool) → encodes (gap b) ≡ gap b
-unfolding encodes encode gap if_then_else_
-encodes-gap true = refl
-encodes-gap false = refl
+use Rattle.tokenized.proofs.Most.{encodes-gap, line-spaced, line-most}
 
 -- what is left of the line from the cursor p on, where some tokens were written or none was
 pub leftFrom : Sentence → Bool → ℕ → List ℕ
 leftFrom s some p = encodes (spaced some (map (writeToken s) (onward (marks s) p)))
 
 left-start : (s : Sentence) → leftFrom s false 0 ≡ written tokenized s
-unfolding leftFrom line
-left-start s = rw (onward-start (marks s), spaced-joined)
+unfolding leftFrom
+left-start s = line-spaced s
 
 -- a token of a sheet as it is written
 abbrev pub tokenIn : Record → Buffers → ℕ → ℕ → List ℕ
@@ -66,12 +51,6 @@ pub comes : {r : Record} {d : Buffers} (p : ℕ) {a : Step} {t : Span} {b e : �
 comes p h x y i j =
     let f = following p (bounded-held h) x y in
     record { from = omega arith; some = omega arith; within = omega arith; rest = rw (i, j) (rw (marks-held h) at (f .rest)) }
-
--- the length of a gap
-gap-small : (some : Bool) → length (gap some) ≤ 1
-unfolding gap
-gap-small true = omega arith
-gap-small false = omega arith
 
 module _ {r : Record} {d : Buffers} (h : Sheet r d) (some : Bool) (p : ℕ) where
   -- that token is next, behind its space
@@ -119,39 +98,37 @@ module _ {r : Record} {d : Buffers} {out₀ out : List ℕ} {n p : ℕ} {some : 
 pub record Summing (r : Record) (d : Buffers) (sum p : ℕ) (some : Bool) : Type 0 where
   pub sheet : Sheet r d
   pub bounded : Bounded (r .n) (d .boundaries-buf)
-  pub within : p ≤ r .n
+  pub few : length (written tokenized (spell r d)) ≤ 20000000
   pub same : sum + length (leftFrom (spell r d) some p) ≡ length (written tokenized (spell r d))
-  pub few : sum ≤ 280000 * p
 
 pub sum-start : {r : Record} {d : Buffers} → Sheet r d → Summing r d 0 0 false
-sum-start {r} {d} h = record { sheet = h; bounded = bounded-held h; within = omega arith; same = rw (left-start (spell r d)) (omega arith); few = omega arith }
+sum-start {r} {d} h = record {
+  sheet = h;
+  bounded = bounded-held h;
+  few = omega (arith, line-most h, most-few (limited h));
+  same = rw (left-start (spell r d)) (omega arith);
+}
 
 module _ {r : Record} {d : Buffers} {sum p : ℕ} {some : Bool} (t : Summing r d sum p some) where
   module _ {b e : ℕ} (f : Comes r d p b e) where
-    small : length (tokenIn r d b e) ≤ 270000
-    small = token-small (t .sheet) b e (omega arith) (f .within) (omega arith)
+    parts : sum + (length (gap some) + (length (tokenIn r d b e) + length (leftFrom (spell r d) true e))) ≡ length (written tokenized (spell r d))
+    parts = omega (arith, t .same, ap length (left-next (t .sheet) some p f), length-append (gap some) (tokenIn r d b e ++ leftFrom (spell r d) true e), length-append (tokenIn r d b e) (leftFrom (spell r d) true e))
 
     pub sum-asks : (1 ≤ e) × TextLies (d .char-pos-buf) (d .text-buf) b e × RowLies (d .row-ends-buf) (d .tag-ends-buf) (d .tag-bytes-buf) (e - 1)
         × (getD (d .row-ends-buf) (e - 1) 0 ≤ edge (d .row-ends-buf) (e - 1) + r .columns) × (length (tokenIn r d b e) < 2 ^ 32)
-    sum-asks = (omega arith, text-lies (t .sheet) b e (omega arith) (f .within), row-lies (t .sheet) (e - 1) (omega arith), row-narrow (t .sheet) (e - 1) (omega arith), omega (arith, small))
+    sum-asks = (omega arith, text-lies (t .sheet) b e (omega arith) (f .within), row-lies (t .sheet) (e - 1) (omega arith), row-narrow (t .sheet) (e - 1) (omega arith), omega (arith, parts, t .few))
 
+    -- the sums are small
     module _ {g : ℕ} (x : g ≡ length (gap some)) where
-      -- the sums are small
-      pub sum-gap : sum + g ≤ 280000 * p + 1
-      sum-gap = omega (arith, t .few, gap-small some)
+      pub sum-gap : sum + g ≤ 20000000
+      sum-gap = omega (arith, parts, t .few)
 
       module _ {u : ℕ} (y : u ≡ length (tokenIn r d b e)) where
-        pub sum-few : sum + g + u ≤ 280000 * e
-        sum-few = omega (arith, sum-gap, small)
+        pub sum-few : sum + g + u ≤ 20000000
+        sum-few = omega (arith, parts, t .few)
 
         pub sum-next : Summing r d (sum + g + u) e true
-        sum-next = record {
-          sheet = t .sheet;
-          bounded = t .bounded;
-          within = f .within;
-          same = omega (arith, t .same, ap length (left-next (t .sheet) some p f), length-append (gap some) (tokenIn r d b e ++ leftFrom (spell r d) true e), length-append (tokenIn r d b e) (leftFrom (spell r d) true e));
-          few = sum-few;
-        }
+        sum-next = record { sheet = t .sheet; bounded = t .bounded; few = t .few; same = omega (arith, parts) }
 
   pub sum-done : {a : Step} {q : ℕ} → a ≡ stepOf (nextToken (marksIn (r .n) (d .boundaries-buf)) (r .n) p) → a ≡ Done q → sum ≡ length (written tokenized (spell r d))
   sum-done x y = omega (arith, t .same, ap length (left-none (t .sheet) some p x y))

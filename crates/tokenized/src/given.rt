@@ -1,4 +1,5 @@
 // Internal: each function assumes a checked sheet, and the writer room for the line.
+use pieces::given::most;
 use pieces::given::token_into;
 use pieces::given::token_len;
 use pieces::given::wide;
@@ -11,6 +12,7 @@ ghost use lib.ListN.{length};
 ghost use Rattle.sentence.specs.Reading.{tokenized};
 ghost use Rattle.sentence.specs.Writing.{written};
 ghost use Rattle.sheet.specs.Layout.{buffers, spell, Sheet};
+ghost use Rattle.pieces.specs.Pieces.{shortOf};
 ghost use Rattle.escape.specs.Wrote.{Wrote, Lined};
 ghost use Rattle.tokenized.specs.Gaps.{gap};
 
@@ -78,6 +80,42 @@ pub fn tokenized_len(
             }
         }
     }
+}
+
+// How long the line is, where there is less room, and else 0; it is measured only where the bound leaves that open.
+pub fn tokenized_short(
+    r: Record,
+    text: &[u8],
+    types: &[u8],
+    boundaries: &[u8],
+    char_pos: &[u16],
+    byte_pos: &[u16],
+    row_ends: &[u16],
+    tag_ends: &[u16],
+    tag_bytes: &[u8],
+    room: usize,
+) -> usize
+    requires { ⌜ Sheet r (buffers (now text) (now types) (now boundaries) (now «char_pos») (now «byte_pos») (now «row_ends») (now «tag_ends») (now «tag_bytes»)) ⌝ }
+    ensures { λ a. ⌜ a ≡ shortOf room (length (written tokenized (spell r (buffers (now (text .entry)) (now (types .entry)) (now (boundaries .entry)) (now («char_pos» .entry)) (now («byte_pos» .entry)) (now («row_ends» .entry)) (now («tag_ends» .entry)) (now («tag_bytes» .entry)))))) ⌝ }
+{
+    if most(r) <= room {
+        return 0;
+    }
+    let needed = tokenized_len(
+        r,
+        text,
+        types,
+        boundaries,
+        char_pos,
+        byte_pos,
+        row_ends,
+        tag_ends,
+        tag_bytes,
+    );
+    if room < needed {
+        return needed;
+    }
+    0
 }
 
 // The line, at the front of the output.

@@ -19,26 +19,31 @@ use Rattle.sheet.specs.Check.{isSheet}
 use Rattle.sheet.proofs.Exact.{is-sheet}
 use Rattle.sheet.proofs.Look.{checked, passed}
 use Rattle.escape.specs.Wrote.{Lined}
+use Rattle.pieces.specs.Pieces.{shortOf}
+use Rattle.pieces.proofs.Room.{short-none, short-some}
 use Rattle.write.specs.Answers.{lineOf, writeOrder, Written}
 
--- ---- the answers: g is what the check answered, n the length that was measured
+-- ---- the answers: g is what the check answered, n the length that is lacking
 module _ (f : Form) (r : Record) (d : Buffers) (out : List ℕ) (g : Bool) (e : g ≡ isSheet r d) where
   pub write-13 : {a : Number} → not g ≡ true → a ≡ Refused (refusal 13 0) → Written f r d out a out
   unfolding writeOrder verdict if_then_else_
   write-13 h q = record { answer-is = rw (← e, h) q; out-is = rw (← e, h) }
 
-  module _ (h : not g ≡ false) (n : ℕ) (m : n ≡ length (lineOf f r d)) where
-    pub write-12 : {a : Number} → length out < n → a ≡ Refused (refusal 12 n) → Written f r d out a out
+  module _ (h : not g ≡ false) (n : ℕ) (m : n ≡ shortOf (length out) (length (lineOf f r d))) where
+    pub write-12 : {a : Number} → 0 < n → a ≡ Refused (refusal 12 n) → Written f r d out a out
     unfolding writeOrder verdict if_then_else_
-    write-12 l q = let t = lt-ltb (length out) n l in record { answer-is = rw (← e, h, ← m, t) q; out-is = rw (← e, h, ← m, t) }
+    write-12 l q =
+        let k = short-some (length out) (length (lineOf f r d)) m l in
+        let t = lt-ltb (length out) (length (lineOf f r d)) (k .1) in
+        record { answer-is = rw (← e, h, t, ← (k .0)) q; out-is = rw (← e, h, t) }
 
-    pub write-room : n ≤ length out → Sheet r d × (length (lineOf f r d) ≤ length out)
-    write-room l = (checked r d g e h, omega arith)
+    pub write-room : n ≤ 0 → Sheet r d × (length (lineOf f r d) ≤ length out)
+    write-room l = (checked r d g e h, short-none (length out) (length (lineOf f r d)) m l)
 
-    pub write-line : {a : ℕ} {out′ : List ℕ} → n ≤ length out → Lined (lineOf f r d) out out′ a → Written f r d out (Is a) out′
+    pub write-line : {a : ℕ} {out′ : List ℕ} → n ≤ 0 → Lined (lineOf f r d) out out′ a → Written f r d out (Is a) out′
     unfolding writeOrder verdict if_then_else_
     write-line l w =
-        let t = le-ltb (length out) (length (lineOf f r d)) (omega arith) in
+        let t = le-ltb (length out) (length (lineOf f r d)) (write-room l .1) in
         record { answer-is = rw (← e, h, t) (ap Is (w .length-is)); out-is = rw (← e, h, t) (w .out-is) }
 
 -- ---- two outcomes of one call are equal

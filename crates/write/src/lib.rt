@@ -1,11 +1,11 @@
 // The writers of any sheet: each answers the length of the line that it wrote at the front of the output, or 13, or 12 at the length needed.
 use partial::given::partial_into;
-use partial::given::partial_len;
+use partial::given::partial_short;
 use sentence::Refusal;
 use sheet::Number;
 use sheet::Record;
 use tokenized::given::tokenized_into;
-use tokenized::given::tokenized_len;
+use tokenized::given::tokenized_short;
 ghost use mathlib.Core.Path.{_≡_};
 ghost use Rattle.sentence.specs.Reading.{tokenized, partial};
 ghost use Rattle.sentence.specs.Refusals.{refusal};
@@ -61,7 +61,7 @@ pub fn write_tokenized_text(
     ) {
         return no_sheet();
     }
-    let needed = tokenized_len(
+    let needed = tokenized_short(
         r,
         text,
         types,
@@ -71,8 +71,9 @@ pub fn write_tokenized_text(
         row_ends,
         tag_ends,
         tag_bytes,
+        out.len(),
     );
-    if out.len() < needed {
+    if needed > 0 {
         return too_short(needed);
     }
     let n = tokenized_into(
@@ -118,7 +119,7 @@ pub fn write_partial_annotation_text(
     ) {
         return no_sheet();
     }
-    let needed = partial_len(
+    let needed = partial_short(
         r,
         text,
         types,
@@ -128,8 +129,9 @@ pub fn write_partial_annotation_text(
         row_ends,
         tag_ends,
         tag_bytes,
+        out.len(),
     );
-    if out.len() < needed {
+    if needed > 0 {
         return too_short(needed);
     }
     let n = partial_into(

@@ -38,13 +38,13 @@ gap-len-requires : tie.Need-gap-len-requires Inv-loop μ-loop
 gap-len-requires c κs = search needs
 
 add-sum : tie.Need-add-sum Inv-loop μ-loop
-add-sum c = omega (arith, sum-gap (c .before .before .before .before .before .before .before .loop .inv) (served (c .before)) (c .gap-len .ensures), c .before .before .before .before .before .before .before .loop .inv)
+add-sum c = omega (arith, sum-gap (c .before .before .before .before .before .before .before .loop .inv) (served (c .before)) (c .gap-len .ensures))
 
 token-len-requires : tie.Need-token-len-requires Inv-loop μ-loop
 token-len-requires c κs = sum-asks (c .before .before .before .before .before .before .before .loop .inv) (served (c .before))
 
 add-sum-2 : tie.Need-add-sum-2 Inv-loop μ-loop
-add-sum-2 c = omega (arith, sum-few (c .before .before .before .before .before .before .before .before .loop .inv) (served (c .before .before)) (c .before .gap-len .ensures) (c .token-len .ensures), c .before .before .before .before .before .before .before .before .loop .inv, served (c .before .before))
+add-sum-2 c = omega (arith, sum-few (c .before .before .before .before .before .before .before .before .loop .inv) (served (c .before .before)) (c .before .gap-len .ensures) (c .token-len .ensures))
 
 loop-less : tie.Need-loop-less Inv-loop μ-loop
 loop-less c = omega (arith, served (c .before .before))
