@@ -121,4 +121,36 @@ impl Sink {
         }
         sink
     }
+
+    // Puts numbers, joined by spaces.
+    pub fn counts(self, out: &mut [u8], s: &[u64]) -> Self {
+        let mut sink = self;
+        let mut i = 0;
+        while i < s.len() {
+            sink = sink.joint(out, i, b' ');
+            sink = sink.number(out, s[i]);
+            i += 1;
+        }
+        sink
+    }
+
+    // Puts a space and bytes in hex.
+    pub fn hex_field(self, out: &mut [u8], s: &[u8]) -> Self {
+        self.put(out, b' ').hex(out, s)
+    }
+
+    // Puts a space and a digit for each byte.
+    pub fn digits_field(self, out: &mut [u8], s: &[u8]) -> Self {
+        self.put(out, b' ').digits(out, s)
+    }
+
+    // Puts a space and numbers.
+    pub fn numbers_field(self, out: &mut [u8], s: &[u16]) -> Self {
+        self.put(out, b' ').numbers(out, s)
+    }
+
+    // Puts a space and a number.
+    pub fn number_field(self, out: &mut [u8], n: u64) -> Self {
+        self.put(out, b' ').number(out, n)
+    }
 }
