@@ -33,8 +33,9 @@ respelled() {
     if ! command -v rt >/dev/null; then
         echo 'host: not run, for rt is not at hand: respell beside the oracle'
     elif ! command -v python3 >/dev/null; then
-        echo 'host: not run, for there is no python3 here: respell beside the oracle'
+        echo 'host: not run, for there is no python3 here: what cases expects, respell beside the oracle'
     else
+        check 'what cases asks and expects, made again, shows no difference' python3 "$here/../crates/cases/expected.py" --check
         check 'respell accepts and writes as the oracle on generated lines' \
             python3 "$here/respelled.py" "$out/oracle" bash "$here/../respell.sh" && sed 's/^/    /' "$log"
     fi
