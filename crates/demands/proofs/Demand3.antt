@@ -1,31 +1,28 @@
 -- Demand 3 holds of the public functions: from their contracts and the laws of the definitions. Assumes nothing.
 use Prim.Native.Nat.{ℕ, _≤_}
 use mathlib.Core.Path.{_≡_, refl, sym, ap, subst, _∙_}
-use mathlib.Core.Logic.{_↔_}
-use mathlib.Core.Bool.{Bool, true, false, not}
-use mathlib.Core.List.{List, [], _∷_, _++_}
+use mathlib.Core.Bool.{Bool, true, false}
+use mathlib.Core.List.{List, [], _∷_}
 use native.Mathlib.Omega.{arith}
-use lib.ListN.{length, take}
+use lib.ListN.{length}
 use lib.Seq.{take-append-seam}
 use borrow.Author.Tests.{not-false}
 use Rattle.laws.specs.If.{if_then_else_}
-use Rattle.laws.specs.Put.{over}
 use Rattle.sentence.specs.Sentence.{Sentence}
-use Rattle.sentence.specs.Reading.{Form, Annotated, raw, tokenized, partial, Result, sentence, refused, read}
+use Rattle.sentence.specs.Reading.{Form, Annotated, tokenized, partial, Result, sentence, refused, read}
 use Rattle.sentence.specs.Writing.{written}
 use Rattle.sentence.specs.Refusals.{check, verdict, readerOrder}
 use Rattle.sentence.proofs.Shape.{read-formed}
 use Rattle.sentence.proofs.Demand3 as definitions
 use Rattle.sheet.specs.declared.Record.{Record}
-use Rattle.sheet.specs.declared.Answer.{Answer}
 use Rattle.sheet.specs.declared.Answer.the-variants as answer
-use Rattle.sheet.specs.Layout.{Buffers, recordOf, roomFor, laid, Holds, spell}
+use Rattle.sheet.specs.Layout.{Buffers, recordOf, roomFor, laid, Holds}
 use Rattle.sheet.proofs.Held.{laid-holds, spelled}
 use Rattle.fill.specs.Fill.{Same}
-use Rattle.read.specs.Read.{lacks, readAnswer, readLeaves, Does, ReadDoes}
+use Rattle.read.specs.Read.{lacks, readAnswer, readLeaves, ReadDoes}
 use Rattle.read.proofs.Ways.{same-is}
 use Rattle.write.proofs.Laws.{took}
-use Rattle.demands.specs.Demands.{Respelt, Demand3}
+use Rattle.demands.specs.Demand3.{Respelt, Demand3}
 
 -- what a line means that was read and written: the sentence that the definitions read, and its written line
 record Means (f g : Form) (x w : List ℕ) : Type 0 where

@@ -1,0 +1,503 @@
+-- Demand 1 holds of every public entry: from the contracts' definitions. Assumes nothing.
+use Prim.Native.Nat.{ℕ, _-_, _≤_}
+use mathlib.Core.Path.{_≡_, refl, sym, ap, subst, _∙_}
+use mathlib.Core.Bool.{Bool, true, false, not, _&&_, _||_, false≢true}
+use mathlib.Core.List.{List, [], _∷_, _++_, map}
+use native.Mathlib.Omega.{arith}
+use borrow.Author.Tests.{le-leb, leb-true, ltb-true}
+use lib.Dec.{eqb, leb, ltb}
+use lib.IntN.{ℤ}
+use lib.ListN.{length, take, drop, length-append, length-take, length-drop}
+use lib.Seq.{take-length}
+use Rattle.laws.specs.If.{if_then_else_, if-cases}
+use Rattle.laws.specs.Put.{over as put}
+use Rattle.utf8.specs.declared.Decoded.{Decoded}
+use Rattle.utf8.specs.declared.Decoded.the-variants as decoded
+use Rattle.utf8.specs.declared.Encoded.{Encoded}
+use Rattle.utf8.specs.Utf8.{scalars, validPrefix, charAt, decodeAt, scalar, encode, filled, encodedOf}
+use Rattle.utf8.proofs.Codec.{valid-within, encode-decode, length-encode, width-small}
+use Rattle.types.specs.declared.ranges.Row.{Row}
+use Rattle.types.specs.TypeOf.{find, ranges, typeOf}
+use Rattle.sentence.specs.declared.Refusal.{Refusal}
+use Rattle.sentence.specs.Sentence.{Sentence}
+use Rattle.sentence.specs.Reading.{Form, raw, tokenized, partial, Kind, mark, slash, back, plain, kind, Place, start, behind, inTag, gap, State, at, escaped, Act, Step, go, stop, ordinary, inside, opening, step, advance, Run, whole, stopped, unfinished, ending, finish, push, follow, run, over, next, Parsed, parsed, gather, Result, sentence, refused, built, placed, read}
+use Rattle.sentence.specs.Writing.{written, blank}
+use Rattle.sentence.specs.Refusals.{refusal, Check, check, verdict, sheetOrder, readerOrder, updateOrder, hostOrder}
+use Rattle.sheet.specs.declared.Record.{Record}
+use Rattle.sheet.specs.declared.Answer.{Answer}
+use Rattle.sheet.specs.declared.Answer.the-variants as answer
+use Rattle.sheet.specs.declared.Number.{Number}
+use Rattle.sheet.specs.declared.Number.the-variants as number
+use Rattle.sheet.specs.declared.Part.{Part}
+use Rattle.sheet.specs.declared.Part.the-variants as part
+use Rattle.sheet.specs.Layout.{Buffers, buffers, recordOf, roomFor, laid, spell}
+use Rattle.sheet.specs.Check.{isSheet}
+use Rattle.sheet.proofs.Exact.{is-sheet, holds-is}
+use Rattle.lookups.specs.Answers.{found, charToStrPos, strToCharPos, boundaryAt, tagPart, tagAt, surfaceAt, bytesOf}
+use Rattle.changes.specs.Changes.{Lays, defaultAnswer, DefaultSet, boundaryAnswer, BoundarySet, resetAnswer, TagsReset}
+use Rattle.scores.specs.Scores.{scoreAnswer, Predicted}
+use Rattle.read.specs.Read.{lacks, readAnswer, readLeaves, ReadDoes, updateAnswer, updateLeaves, UpdateDoes}
+use Rattle.read.proofs.Ways.{same-is}
+use Rattle.tokens.specs.declared.Next.the-variants as step-answer
+use Rattle.tokens.specs.declared.Token.{Token}
+use Rattle.tokens.specs.Steps.{spanOf, tokensOf, nextOf, listOrder, countOf, Listed}
+use Rattle.write.specs.Answers.{lineOf, writeOrder, Written}
+use Rattle.passage.specs.declared.Converted.{Converted}
+use Rattle.passage.specs.Between.{Outcome, writes, formOf, between, answerOf, outputOf, Converts}
+use Rattle.passage.specs.Between.{refuses as no-line}
+use Rattle.convert.specs.Convert.{unknownForms, outOfRange, conversion, codeOf}
+use Rattle.respelling.specs.declared.Turn.{Turn}
+use Rattle.respelling.specs.Stream.{turn, Turned}
+use Rattle.respelling.proofs.Turns.{used-within, wrote-within}
+use Rattle.demands.specs.Demand1.{Said, serves, refuses, ofAnswer, ofNumber, ofPart, ofNext, ofConverted, oneOf, Answers, Settled, Blanked, lineNumbers, upTo, inLine, neededOf, Stands, Demand1}
+
+-- ---- one of the refusals
+leb-self : (n : ℕ) → leb n n ≡ true
+leb-self n = le-leb n n (omega arith)
+
+or-right : (a : Bool) {b : Bool} → b ≡ true → (a || b) ≡ true
+or-right true e = refl
+or-right false e = e
+
+more : (q : ℕ × ℕ) (qs : List (ℕ × ℕ)) (x : Refusal) → oneOf qs x ≡ true → oneOf (q ∷ qs) x ≡ true
+unfolding oneOf
+more q qs x e = or-right (eqb (x .number) (q .0) && leb (x .place) (q .1)) e
+
+either : (b c l r : Bool) → (b || c) ≡ true → l ≡ true → (c ≡ true → r ≡ true) → (b && l || r) ≡ true
+either true c l r e i h = rw i
+either false c l r e i h = h e
+
+-- a number that is listed, at a place that is not too far
+among : (ns : List ℕ) (n p m : ℕ) → found n ns ≡ true → p ≤ m → oneOf (upTo m ns) (refusal n p) ≡ true
+unfolding oneOf upTo found
+among [] n p m e h = e
+among (k ∷ ns) n p m e h = either (eqb n k) (found n ns) (leb p m) _ e (le-leb p m h) (λ i. among ns n p m i h)
+
+-- ---- checks, each of which refuses by one of these
+abbrev Each : List (ℕ × ℕ) → List Check → Type 0
+Each qs [] = Unit {0}
+Each qs (check b n p ∷ cs) = (b ≡ true → oneOf qs (refusal n p) ≡ true) × Each qs cs
+
+module _ {A : Type 0} (say : A → Said) (refuse : Refusal → A) (tells : (x : Refusal) → say (refuse x) ≡ refuses x) (qs : List (ℕ × ℕ)) where
+  answers : (cs : List Check) (served : A) → say served ≡ serves → Each qs cs → Answers qs (say (verdict refuse cs served))
+  unfolding verdict if_then_else_
+  answers [] served s h = rw s tt
+  answers (check true n p ∷ cs) served s h = rw (tells (refusal n p)) (h .0 refl)
+  answers (check false n p ∷ cs) served s h = answers cs served s (h .1)
+
+  settles : {M : Type 0} (cs : List Check) (served : A) (d new : M) → say served ≡ serves → Each qs cs
+      → Settled qs (say (verdict refuse cs served)) d (verdict (λ x. d) cs new)
+  unfolding verdict if_then_else_
+  settles [] served d new s h = rw s tt
+  settles (check true n p ∷ cs) served d new s h = rw (tells (refusal n p)) (h .0 refl, refl)
+  settles (check false n p ∷ cs) served d new s h = settles cs served d new s (h .1)
+
+-- the checks of a call on a sheet
+sheet-13-14 : (bad out : Bool) (i : ℕ) → Each ((13, 0) ∷ (14, i) ∷ []) (sheetOrder bad out i false 0)
+unfolding oneOf
+sheet-13-14 bad out i = (λ e. refl, (λ e. rw (leb-self i), (λ e. absurd (false≢true e), tt)))
+
+sheet-13-12 : (bad short : Bool) (p n : ℕ) → Each ((13, 0) ∷ (12, n) ∷ []) (sheetOrder bad false p short n)
+unfolding oneOf
+sheet-13-12 bad short p n = (λ e. refl, (λ e. absurd (false≢true e), (λ e. rw (leb-self n), tt)))
+
+sheet-13 : (bad : Bool) (p : ℕ) → Each ((13, 0) ∷ []) (sheetOrder bad false p false 0)
+unfolding oneOf
+sheet-13 bad p = (λ e. refl, (λ e. absurd (false≢true e), (λ e. absurd (false≢true e), tt)))
+
+-- ---- what each kind of answer says
+tells-answer : (x : Refusal) → ofAnswer (answer.Refused x) ≡ refuses x
+unfolding ofAnswer
+tells-answer x = refl
+
+tells-number : (x : Refusal) → ofNumber (number.Refused x) ≡ refuses x
+unfolding ofNumber
+tells-number x = refl
+
+tells-part : (x : Refusal) → ofPart (part.Refused x) ≡ refuses x
+unfolding ofPart
+tells-part x = refl
+
+tells-next : (x : Refusal) → ofNext (step-answer.Refused x) ≡ refuses x
+unfolding ofNext
+tells-next x = refl
+
+serves-answer : (r : Record) → ofAnswer (answer.Sentence r) ≡ serves
+unfolding ofAnswer
+serves-answer r = refl
+
+serves-number : (n : ℕ) → ofNumber (number.Is n) ≡ serves
+unfolding ofNumber
+serves-number n = refl
+
+serves-bytes : (b e : ℕ) → ofPart (part.Bytes b e) ≡ serves
+unfolding ofPart
+serves-bytes b e = refl
+
+serves-tag : (b : ℕ) (t : List ℕ) → ofPart (tagPart b t) ≡ serves
+unfolding ofPart tagPart
+serves-tag b [] = refl
+serves-tag b (c ∷ t) = refl
+
+-- ---- calls that lay a sentence down: a refusal leaves the buffers
+lays : {s : Sentence} {d e : Buffers} (qs : List (ℕ × ℕ)) (cs : List Check) (q : Record) (r : Answer) → Each qs cs
+    → Lays (verdict answer.Refused cs (answer.Sentence q)) s d r e → Settled qs (ofAnswer r) d e
+unfolding ofAnswer
+lays qs cs q (answer.Sentence z) h w = tt
+lays {s} {d} {e} qs cs q (answer.Refused x) h w =
+    let same : whole e ≡ whole d = cc in
+    (subst (λ (a : Answer). Answers qs (ofAnswer a)) (sym (w .answer-is)) (answers ofAnswer answer.Refused tells-answer qs cs (answer.Sentence q) (serves-answer q) h), same)
+  where
+    whole : Buffers → Buffers
+    whole x = buffers (x .text-buf) (x .types-buf) (x .boundaries-buf) (x .char-pos-buf) (x .byte-pos-buf) (x .row-ends-buf) (x .tag-ends-buf) (x .tag-bytes-buf)
+
+-- ---- what a line is refused by
+abbrev Stops : Form → Step → Type 0
+Stops f (go σ a) = Unit {0}
+Stops f (stop e) = found e (lineNumbers f) ≡ true
+
+abbrev Ran : Form → Run → Type 0
+Ran f (whole l) = Unit {0}
+Ran f (stopped e left) = found e (lineNumbers f) ≡ true
+
+ordinary-stops : (f : Form) (p : Place) (c : ℕ) → Stops f (ordinary f p c)
+unfolding ordinary found lineNumbers
+ordinary-stops f start c = tt
+ordinary-stops f (gap m) c = tt
+ordinary-stops f inTag c = tt
+ordinary-stops raw behind c = tt
+ordinary-stops tokenized behind c = tt
+ordinary-stops partial behind c = refl
+
+inside-stops : (f : Form) (p : Place) (k : Kind) (c : ℕ) → Stops f (inside f p k c)
+unfolding inside
+inside-stops f p (mark m) c = tt
+inside-stops f p slash c = tt
+inside-stops f p back c = tt
+inside-stops f p plain c = ordinary-stops f p c
+
+opening-stops : (e : ℕ) (p : Place) (k : Kind) (c : ℕ) → found e (lineNumbers tokenized) ≡ true → Stops tokenized (opening e p k c)
+unfolding opening found lineNumbers
+opening-stops e p (mark m) c h = h
+opening-stops e p slash c h = refl
+opening-stops e p back c h = tt
+opening-stops e p plain c h = ordinary-stops tokenized p c
+
+step-stops : (f : Form) (σ : State) (k : Kind) (c : ℕ) → Stops f (step f σ k c)
+unfolding step found lineNumbers
+step-stops f (escaped p) k c = ordinary-stops f p c
+step-stops f (at behind) k c = inside-stops f behind k c
+step-stops f (at inTag) k c = inside-stops f inTag k c
+step-stops raw (at start) k c = ordinary-stops raw start c
+step-stops raw (at (gap m)) k c = ordinary-stops raw (gap m) c
+step-stops partial (at start) k c = ordinary-stops partial start c
+step-stops partial (at (gap m)) k c = ordinary-stops partial (gap m) c
+step-stops tokenized (at start) k c = opening-stops 5 start k c refl
+step-stops tokenized (at (gap m)) k c = opening-stops 6 (gap m) k c refl
+
+-- every form has the first four
+record Common (f : Form) : Type 0 where
+  one : found 1 (lineNumbers f) ≡ true
+  two : found 2 (lineNumbers f) ≡ true
+  three : found 3 (lineNumbers f) ≡ true
+  four : found 4 (lineNumbers f) ≡ true
+
+common : (f : Form) → Common f
+unfolding found lineNumbers
+common raw = record { one = refl; two = refl; three = refl; four = refl }
+common tokenized = record { one = refl; two = refl; three = refl; four = refl }
+common partial = record { one = refl; two = refl; three = refl; four = refl }
+
+advance-stops : (f : Form) (σ : State) (c : ℕ) → Stops f (advance f σ c)
+unfolding advance
+advance-stops f σ c = if-cases (Stops f) (eqb c 0) _ _ (λ e. common f .four) (λ e. step-stops f σ (kind f c) c)
+
+ending-ran : (f : Form) (p : Place) → Ran f (ending f p)
+unfolding ending unfinished found lineNumbers
+ending-ran f start = common f .three
+ending-ran f behind = tt
+ending-ran f inTag = tt
+ending-ran raw (gap m) = refl
+ending-ran tokenized (gap m) = refl
+ending-ran partial (gap m) = refl
+
+push-ran : (f : Form) (a : Act) (r : Run) → Ran f r → Ran f (push a r)
+unfolding push
+push-ran f a (whole l) h = tt
+push-ran f a (stopped e left) h = h
+
+follow-ran : (f : Form) (s : Step) (on : State → Run) (left : ℕ) → Stops f s → ((σ : State) → Ran f (on σ)) → Ran f (follow s on left)
+unfolding follow
+follow-ran f (go σ a) on left h k = push-ran f a (on σ) (k σ)
+follow-ran f (stop e) on left h k = h
+
+run-ran : (f : Form) (σ : State) (x : List ℕ) → Ran f (run f σ x)
+unfolding run finish
+run-ran f (at p) [] = ending-ran f p
+run-ran f (escaped p) [] = ending-ran f p
+run-ran f σ (c ∷ x) = follow-ran f (advance f σ c) _ _ (advance-stops f σ c) (λ τ. run-ran f τ x)
+
+abbrev Told : Form → ℕ → Result → Type 0
+Told f m (sentence s) = Unit {0}
+Told f m (refused n p) = oneOf (upTo m (lineNumbers f)) (refusal n p) ≡ true
+
+built-told : (f : Form) (m : ℕ) (p : Parsed) → Told f m (built p)
+unfolding built
+built-told f m (parsed t ts n over) = among (lineNumbers f) 3 0 m (common f .three) (omega arith)
+built-told f m (parsed t ts n (next k s)) = tt
+
+placed-told : (f : Form) (m : ℕ) (r : Run) → Ran f r → Told f m (placed m r)
+unfolding placed
+placed-told f m (whole l) h = built-told f m (gather l)
+placed-told f m (stopped e left) h = among (lineNumbers f) e (m - left) m h (omega arith)
+
+-- a refused line: a number of its form, at a place that is not past its end
+read-told : (f : Form) (x : List ℕ) → Told f (length x) (read f x)
+unfolding read
+read-told f x =
+    if-cases (Told f (length x)) (ltb 4096 (length x)) _ _
+    (λ e. among (lineNumbers f) 1 4096 (length x) (common f .one) (omega (arith, ltb-true 4096 (length x) e)))
+    (λ e. if-cases (Told f (length x)) (ltb (validPrefix x) (length x)) _ _
+    (λ e. among (lineNumbers f) 2 (validPrefix x) (length x) (common f .two) (valid-within x))
+    (λ e. placed-told f (length x) (run f (at start) (scalars x)) (run-ran f (at start) (scalars x))))
+
+-- ---- the readers and the updates
+module _ (f : Form) (x : List ℕ) (d e : Buffers) (a : Answer) where
+  reader : ReadDoes (read f x) d a e → Settled ((11, 0) ∷ inLine f x) (ofAnswer a) d e
+  unfolding readAnswer readLeaves readerOrder ofAnswer oneOf
+  reader w = subst (λ (r : Answer). Settled ((11, 0) ∷ inLine f x) (ofAnswer r) d e) (sym (w .answer-is))
+      (subst (λ (b : Buffers). Settled ((11, 0) ∷ inLine f x) (ofAnswer (readAnswer (read f x) d)) d b) (sym (same-is (w .buffers-are))) (on (read f x) (read-told f x)))
+    where
+      on : (r : Result) → Told f (length x) r → Settled ((11, 0) ∷ inLine f x) (ofAnswer (readAnswer r d)) d (readLeaves r d)
+      on (refused n p) h = (more (11, 0) (inLine f x) (refusal n p) h, refl)
+      on (sentence s) h = settles ofAnswer answer.Refused tells-answer ((11, 0) ∷ inLine f x) (check (lacks d s) 11 0 ∷ []) (answer.Sentence (recordOf s)) d (laid s d) (serves-answer (recordOf s)) (λ k. refl, tt)
+
+-- what an update answers and leaves, where there is no room for the one-blank sentence or where there is
+abbrev Left : Form → List ℕ → Buffers → Bool → Said → Buffers → Type 0
+Left f x d b serves e = Unit {0}
+Left f x d b (refuses y) e = (oneOf ((15, 0) ∷ (11, 0) ∷ inLine f x) y ≡ true) × (e ≡ (if b then d else laid blank d))
+
+left : (f : Form) (x : List ℕ) (d : Buffers) (b : Bool) (r : Result) → Told f (length x) r
+    → Left f x d b (ofAnswer (verdict answer.Refused (check b 15 0 ∷ []) (readerOrder answer.Refused (lacks d) (λ (s : Sentence). answer.Sentence (recordOf s)) r)))
+    (if b then d else readerOrder (λ (y : Refusal). laid blank d) (lacks d) (λ (s : Sentence). laid s d) r)
+unfolding verdict readerOrder if_then_else_ ofAnswer oneOf
+left f x d true r h = (refl, refl)
+left f x d false (refused n p) h = (more (15, 0) ((11, 0) ∷ inLine f x) (refusal n p) (more (11, 0) (inLine f x) (refusal n p) h), refl)
+left f x d false (sentence s) h = on (lacks d s)
+  where
+    on : (c : Bool) → Left f x d false (ofAnswer (if c then answer.Refused (refusal 11 0) else answer.Sentence (recordOf s))) (if c then laid blank d else laid s d)
+    on true = (refl, refl)
+    on false = tt
+
+updates : (f : Form) (x : List ℕ) (d e : Buffers) (a : Answer) → UpdateDoes (read f x) d a e → Blanked ((15, 0) ∷ (11, 0) ∷ inLine f x) (ofAnswer a) d e
+unfolding updateAnswer updateLeaves updateOrder
+updates f x d e a w = blanked (ofAnswer a) (rw (w .answer-is, same-is (w .buffers-are)) (left f x d (lacks d blank) (read f x) (read-told f x)))
+  where
+    blanked : (y : Said) → Left f x d (lacks d blank) y e → Blanked ((15, 0) ∷ (11, 0) ∷ inLine f x) y d e
+    blanked serves h = tt
+    blanked (refuses y) h = h
+
+-- ---- the writers
+writer : (f : Form) (r : Record) (d : Buffers) (out out′ : List ℕ) (a : Number) → Written f r d out a out′
+    → Settled ((13, 0) ∷ (12, length (lineOf f r d)) ∷ []) (ofNumber a) out out′
+unfolding writeOrder
+writer f r d out out′ a w =
+    rw (w .answer-is, w .out-is)
+    (settles ofNumber number.Refused tells-number ((13, 0) ∷ (12, length (lineOf f r d)) ∷ []) (writeOrder f r d (length out)) (number.Is (length (lineOf f r d))) out (put (lineOf f r d) out) (serves-number (length (lineOf f r d)))
+    (sheet-13-12 (not (isSheet r d)) (ltb (length out) (length (lineOf f r d))) 0 (length (lineOf f r d))))
+
+-- ---- the conversion
+module _ (reader writer : ℕ) (x out out′ : List ℕ) (place : ℕ) where
+  abbrev refusals : List (ℕ × ℕ)
+  refusals = (16, 0) ∷ (14, 0) ∷ (12, neededOf (formOf writer) (read (formOf reader) x)) ∷ inLine (formOf reader) x
+
+  -- what comes of it, said
+  abbrev Comes : List (ℕ × ℕ) → Outcome → Type 0
+  Comes qs (writes w) = Unit {0}
+  Comes qs (no-line y) = oneOf qs y ≡ true
+
+  comes : (unknown outside : Bool) (r : Result) → Told (formOf reader) (length x) r
+      → Comes ((16, 0) ∷ (14, 0) ∷ (12, neededOf (formOf writer) r) ∷ inLine (formOf reader) x)
+      (hostOrder no-line unknown outside (λ (s : Sentence). ltb (length out - place) (length (written (formOf writer) s))) (λ (s : Sentence). length (written (formOf writer) s)) (λ (s : Sentence). writes (written (formOf writer) s)) r)
+  unfolding hostOrder verdict if_then_else_ oneOf neededOf
+  comes true outside (refused n p) h = refl
+  comes false true (refused n p) h = refl
+  comes false false (refused n p) h =
+      more (16, 0) ((14, 0) ∷ (12, 0) ∷ inLine (formOf reader) x) (refusal n p)
+      (more (14, 0) ((12, 0) ∷ inLine (formOf reader) x) (refusal n p) (more (12, 0) (inLine (formOf reader) x) (refusal n p) h))
+  comes true outside (sentence s) h = refl
+  comes false true (sentence s) h = refl
+  comes false false (sentence s) h = on (ltb (length out - place) (length (written (formOf writer) s)))
+    where
+      on : (b : Bool) → Comes ((16, 0) ∷ (14, 0) ∷ (12, length (written (formOf writer) s)) ∷ inLine (formOf reader) x)
+          (if b then no-line (refusal 12 (length (written (formOf writer) s))) else writes (written (formOf writer) s))
+      on true = rw (leb-self (length (written (formOf writer) s)))
+      on false = tt
+
+  outcome : Comes refusals (conversion reader writer x (length out) place)
+  unfolding conversion between
+  outcome = comes (unknownForms reader writer) (outOfRange (length out) place) (read (formOf reader) x) (read-told (formOf reader) x)
+
+  settled : (o : Outcome) → Comes refusals o → Settled refusals (ofConverted (answerOf place o)) out (outputOf place o out)
+  unfolding answerOf outputOf ofConverted
+  settled (writes w) h = tt
+  settled (no-line y) h = (h, refl)
+
+  converts : (a : Converted) → Converts (λ (c : Converted). c) (conversion reader writer x (length out) place) place out a out′ → Settled refusals (ofConverted a) out out′
+  converts a w = rw (w .answer, w .output) (settled (conversion reader writer x (length out) place) outcome)
+
+  converts-host : (a : ℕ) → Converts codeOf (conversion reader writer x (length out) place) place out a out′
+      → (c : Converted) × (a ≡ codeOf c) × Settled refusals (ofConverted c) out out′
+  converts-host a w =
+      (answerOf place (conversion reader writer x (length out) place), w .answer, rw (w .output) (settled (conversion reader writer x (length out) place) outcome))
+
+-- ---- parts, UTF-8 and types
+part-small : (l : List ℕ) (p : Part) → length (bytesOf l p) ≤ length l
+unfolding bytesOf
+part-small l (part.Bytes b e) =
+    if-cases (λ (y : List ℕ). length y ≤ length l) (leb b e && leb e (length l)) _ _
+    (λ h. omega (arith, length-take (e - b) (drop b l), length-drop b l)) (λ h. omega arith)
+part-small l part.Absent = omega arith
+part-small l (part.Refused x) = omega arith
+
+stands : (s : List ℕ) (p : ℕ) → Stands s p (decodeAt s p)
+unfolding decodeAt
+stands s p = on (charAt (drop p s)) refl
+  where
+    on : (a : Decoded) → charAt (drop p s) ≡ a → Stands s p a
+    on (decoded.Char v n) e =
+        let c = encode-decode (drop p s) v n e in
+        (c .is-scalar, omega (arith, ap length (c .bytes), length-encode v, c .wide, length-take n (drop p s), length-drop p s, width-small v))
+    on decoded.Bad e = tt
+    on decoded.End e = tt
+
+encoded-small : (v : ℕ) → (length (encodedOf v .bytes) ≡ 4) × (encodedOf v .len ≤ 4)
+unfolding encodedOf filled
+encoded-small v =
+    if-cases (λ (a : Encoded). (length (a .bytes) ≡ 4) × (a .len ≤ 4)) (scalar v) _ _
+    (λ h. (omega (arith, length-take 4 (encode v ++ 0 ∷ 0 ∷ 0 ∷ 0 ∷ []), length-append (encode v) (0 ∷ 0 ∷ 0 ∷ 0 ∷ [])), omega (arith, length-encode v, width-small v)))
+    (λ h. (refl, omega arith))
+
+-- each row has one of the six types
+unfoldable six : List Row → Bool
+six [] = true
+six (r ∷ rs) = leb 1 (r .2) && leb (r .2) 6 && six rs
+
+all-six : six ranges ≡ true
+unfolding six ranges
+all-six = refl
+
+both : (a b : Bool) → (a && b) ≡ true → (a ≡ true) × (b ≡ true)
+both true b e = (refl, e)
+both false b e = absurd (false≢true e)
+
+found-six : (c : ℕ) (rs : List Row) → six rs ≡ true → (1 ≤ find rs c) × (find rs c ≤ 6)
+unfolding find six
+found-six c [] h = (omega arith, omega arith)
+found-six c (r ∷ rs) h =
+    let k = both (leb 1 (r .2) && leb (r .2) 6) (six rs) h in
+    let l = both (leb 1 (r .2)) (leb (r .2) 6) (k .0) in
+    if-cases (λ (t : ℕ). (1 ≤ t) × (t ≤ 6)) (leb (r .0) c && leb c (r .1)) _ _
+    (λ e. (leb-true 1 (r .2) (l .0), leb-true (r .2) 6 (l .1))) (λ e. found-six c rs (k .1))
+
+type-small : (c : ℕ) → (1 ≤ typeOf c) × (typeOf c ≤ 6)
+unfolding typeOf
+type-small c = found-six c ranges all-six
+
+-- ---- look-ups: of whether there is a sheet, of whether a number is out of range, and of what is served
+asked-number : (bad out : Bool) (i n : ℕ) → Answers ((13, 0) ∷ (14, i) ∷ []) (ofNumber (verdict number.Refused (sheetOrder bad out i false 0) (number.Is n)))
+asked-number bad out i n =
+    answers ofNumber number.Refused tells-number ((13, 0) ∷ (14, i) ∷ []) (sheetOrder bad out i false 0) (number.Is n) (serves-number n) (sheet-13-14 bad out i)
+
+asked-part : (bad out : Bool) (i : ℕ) (p : Part) → ofPart p ≡ serves → Answers ((13, 0) ∷ (14, i) ∷ []) (ofPart (verdict part.Refused (sheetOrder bad out i false 0) p))
+asked-part bad out i p h =
+    answers ofPart part.Refused tells-part ((13, 0) ∷ (14, i) ∷ []) (sheetOrder bad out i false 0) p h (sheet-13-14 bad out i)
+
+char-pos : (good : Bool) (s : Sentence) (i : ℕ) → Answers ((13, 0) ∷ (14, i) ∷ []) (ofNumber (charToStrPos good s i))
+unfolding charToStrPos
+char-pos good s i = asked-number (not good) _ i _
+
+byte-pos : (good : Bool) (s : Sentence) (p : ℕ) → Answers ((13, 0) ∷ (14, p) ∷ []) (ofNumber (strToCharPos good s p))
+unfolding strToCharPos
+byte-pos good s p = asked-number (not good) _ p _
+
+mark-at : (good : Bool) (s : Sentence) (i : ℕ) → Answers ((13, 0) ∷ (14, i) ∷ []) (ofNumber (boundaryAt good s i))
+unfolding boundaryAt
+mark-at good s i = asked-number (not good) _ i _
+
+cell-at : (good : Bool) (s : Sentence) (i j : ℕ) → Answers ((13, 0) ∷ (14, i) ∷ []) (ofPart (tagAt good s i j))
+unfolding tagAt
+cell-at good s i j = asked-part (not good) _ i _ (serves-tag _ _)
+
+text-at : (good : Bool) (s : Sentence) (b e : ℕ) → Answers ((13, 0) ∷ (14, b) ∷ []) (ofPart (surfaceAt good s b e))
+unfolding surfaceAt
+text-at good s b e = asked-part (not good) _ b _ (serves-bytes _ _)
+
+stepped : (r : Record) (d : Buffers) (p : ℕ) → Answers ((13, 0) ∷ []) (ofNext (nextOf r d p))
+unfolding nextOf ofNext
+stepped r d p = answers ofNext step-answer.Refused tells-next ((13, 0) ∷ []) (sheetOrder (not (isSheet r d)) false p false 0) _ refl (sheet-13 (not (isSheet r d)) p)
+
+-- ---- the token list, and the changes
+lists : (r : Record) (d : Buffers) (l l′ : List Token) (a : Number) → Listed r d l a l′ → Settled ((13, 0) ∷ (12, length (tokensOf r d)) ∷ []) (ofNumber a) l l′
+unfolding countOf listOrder
+lists r d l l′ a w =
+    rw (w .answer-is, w .list-is)
+    (settles ofNumber number.Refused tells-number ((13, 0) ∷ (12, length (tokensOf r d)) ∷ []) (listOrder r d (length l)) (number.Is (length (tokensOf r d))) l (put (map spanOf (tokensOf r d)) l) (serves-number (length (tokensOf r d)))
+    (sheet-13-12 (not (isSheet r d)) (ltb (length l) (length (tokensOf r d))) 0 (length (tokensOf r d))))
+
+default : (d e : Buffers) (a : Answer) → DefaultSet d a e → Settled ((15, 0) ∷ []) (ofAnswer a) d e
+unfolding defaultAnswer oneOf
+default d e a w = lays ((15, 0) ∷ []) (check (not (roomFor (recordOf blank) d)) 15 0 ∷ []) (recordOf blank) a (λ h. refl, tt) w
+
+marks-set : (r : Record) (d e : Buffers) (i v : ℕ) (a : Answer) → BoundarySet r d i v a e → Settled ((13, 0) ∷ (14, i) ∷ []) (ofAnswer a) d e
+unfolding boundaryAnswer
+marks-set r d e i v a w = lays ((13, 0) ∷ (14, i) ∷ []) _ _ a (sheet-13-14 (not (isSheet r d)) _ i) w
+
+tags-reset : (r : Record) (d e : Buffers) (c : ℕ) (a : Answer) → TagsReset r d c a e → Settled ((13, 0) ∷ (14, c) ∷ []) (ofAnswer a) d e
+unfolding resetAnswer
+tags-reset r d e c a w = lays ((13, 0) ∷ (14, c) ∷ []) _ _ a (sheet-13-14 (not (isSheet r d)) _ c) w
+
+decided : (r : Record) (d e : Buffers) (zs : List ℤ) (a : Answer) → Predicted r d zs a e → Settled ((13, 0) ∷ (14, length zs) ∷ []) (ofAnswer a) d e
+unfolding scoreAnswer
+decided r d e zs a w = lays ((13, 0) ∷ (14, length zs) ∷ []) _ _ a (sheet-13-14 (not (isSheet r d)) _ (length zs)) w
+
+-- ---- the program's pieces
+spent : (s out out′ : List ℕ) (skip last : Bool) (a : Turn) → Turned (turn last skip (length out) s) out a out′ → length out′ ≡ length out
+    → (a .used ≤ length s) × (a .wrote ≤ length out)
+spent s out out′ skip last a w k =
+    let t : take (length s) s ≡ s = take-length s in
+    (used-within last skip (length out) (length s) s {out = out} {end = out′} {r = a} (rw t w), omega (arith, wrote-within w k, k))
+
+-- ---- the demand
+pub demand-1 : Demand1
+demand-1 = record {
+  from-raw = λ x d e a w. reader raw x d e a w;
+  from-tokenized = λ x d e a w. reader tokenized x d e a w;
+  from-partial-annotation = λ x d e a w. reader partial x d e a w;
+  update-raw = λ x d e a w. updates raw x d e a w;
+  update-tokenized = λ x d e a w. updates tokenized x d e a w;
+  update-partial-annotation = λ x d e a w. updates partial x d e a w;
+  write-tokenized-text = λ r d out out′ a w. writer tokenized r d out out′ a w;
+  write-partial-annotation-text = λ r d out out′ a w. writer partial r d out out′ a w;
+  note-key = λ r d out out′ a w. writer partial r d out out′ a w;
+  next-token = λ r d p a e. rw e (stepped r d p);
+  token-list = λ r d l l′ a w. lists r d l l′ a w;
+  char-to-str-pos = λ r d i a e. rw e (char-pos (isSheet r d) (spell r d) i);
+  str-to-char-pos = λ r d p a e. rw e (byte-pos (isSheet r d) (spell r d) p);
+  boundary = λ r d i a e. rw e (mark-at (isSheet r d) (spell r d) i);
+  tag = λ r d i j a e. rw e (cell-at (isSheet r d) (spell r d) i j);
+  surface = λ r d b e a q. rw q (text-at (isSheet r d) (spell r d) b e);
+  part-of = λ l p a e. rw e (part-small l p);
+  set-default = λ d e a w. default d e a w;
+  set-boundary = λ r d e i v a w. marks-set r d e i v a w;
+  reset-tags = λ r d e c a w. tags-reset r d e c a w;
+  predict = λ r d e zs a w. decided r d e zs a w;
+  check = λ r d a e. (λ h. is-sheet r d (sym e ∙ h), λ h. e ∙ holds-is r d (spell r d) h);
+  convert = λ f g x out out′ p a w. converts f g x out out′ p a w;
+  ighdelmur-convert = λ f g x out out′ p a w. converts-host f g x out out′ p a w;
+  respell = λ s out out′ skip last a w k. spent s out out′ skip last a w k;
+  decode = λ s p a e. rw e (stands s p);
+  encode = λ v a e. rw e (encoded-small v);
+  valid-up-to = λ s a e. rw e (valid-within s);
+  get-type = λ c a e. rw e (type-small c);
+}

@@ -1,0 +1,84 @@
+-- Demand 2: on a UTF-8 line of at most 4,096 bytes, given room, what the public functions answer and leave is what document 01's definitions say.
+-- The same parts are compared with the Rust by the runs of docs/DIFFERENCES.md ('What was run against the Rust').
+use Prim.Native.Nat.{ℕ, _≤_, _<_}
+use mathlib.Core.Path.{_≡_}
+use mathlib.Core.Bool.{true}
+use mathlib.Core.List.{List, [], map}
+use lib.Dec.{T}
+use lib.ListN.{length, getD}
+use Rattle.laws.specs.All.{All}
+use Rattle.laws.specs.Put.{over}
+use Rattle.utf8.specs.Utf8.{scalar, scalars, encodes, validPrefix}
+use Rattle.types.specs.TypeOf.{find, ranges, typeOf, ascending}
+use Rattle.sentence.specs.Sentence.{Sentence, code, text, marks, rows, count, table, charPositions, bytePositions}
+use Rattle.sentence.specs.Reading.{Form, sentence, refused, read}
+use Rattle.sentence.specs.Writing.{tokensFrom, nextToken, written, needed, blank}
+use Rattle.sentence.specs.Refusals.{refusal}
+use Rattle.sentence.specs.Worked.{Case, worked, given}
+use Rattle.sheet.specs.declared.Record.{Record}
+use Rattle.sheet.specs.declared.Answer.{Answer}
+use Rattle.sheet.specs.declared.Answer.the-variants as answer
+use Rattle.sheet.specs.declared.Number.{Number}
+use Rattle.sheet.specs.declared.Number.the-variants as number
+use Rattle.sheet.specs.Layout.{Buffers, recordOf, roomFor, tagsOf, rowEnds, tagEnds, bytesOf, Holds, spell}
+use Rattle.sheet.specs.Check.{isSheet}
+use Rattle.lookups.specs.Answers.{charToStrPos, strToCharPos, cell}
+use Rattle.read.specs.Read.{ReadDoes, UpdateDoes}
+use Rattle.tokens.specs.declared.Token.{Token}
+use Rattle.tokens.specs.declared.Next.{Next}
+use Rattle.tokens.specs.declared.Next.the-variants as next
+use Rattle.tokens.specs.Steps.{spanOf, stepOf, nextOf, Listed}
+use Rattle.write.specs.Answers.{Written}
+
+-- each buffer holds its part of the sentence at its front, and behind it what it held
+pub record Lies (s : Sentence) (d e : Buffers) : Type 0 where
+  pub text-is : e .text-buf ≡ over (encodes (text s)) (d .text-buf)
+  pub types-are : e .types-buf ≡ over (map typeOf (text s)) (d .types-buf)
+  pub boundaries-are : e .boundaries-buf ≡ over (map code (marks s)) (d .boundaries-buf)
+  pub char-positions-are : e .char-pos-buf ≡ over (charPositions (text s)) (d .char-pos-buf)
+  pub byte-positions-are : e .byte-pos-buf ≡ over (bytePositions (text s)) (d .byte-pos-buf)
+  pub row-ends-are : e .row-ends-buf ≡ over (rowEnds 0 (rows s)) (d .row-ends-buf)
+  pub tag-ends-are : e .tag-ends-buf ≡ over (tagEnds 0 (tagsOf (rows s))) (d .tag-ends-buf)
+  pub tag-bytes-are : e .tag-bytes-buf ≡ over (bytesOf (tagsOf (rows s))) (d .tag-bytes-buf)
+
+-- the record and the buffers of a sentence that was read: they are its own, and hold it
+pub record Taken (s : Sentence) (d : Buffers) (a : Answer) (e : Buffers) : Type 0 where
+  pub answer-is : a ≡ answer.Sentence (recordOf s)
+  pub lies : Lies s d e
+  pub holds : Holds (recordOf s) e s
+
+pub record Demand2 : Type 0 where
+  -- a line that the grammar of its form reads to a sentence leaves that sentence
+  pub reads : (f : Form) (x : List ℕ) (s : Sentence) (d e : Buffers) (a : Answer) → read f x ≡ sentence s → roomFor (recordOf s) d ≡ true
+      → ReadDoes (read f x) d a e → Taken s d a e
+  -- and so in an update
+  pub updates : (f : Form) (x : List ℕ) (s : Sentence) (d e : Buffers) (a : Answer) → read f x ≡ sentence s → roomFor (recordOf s) d ≡ true
+      → roomFor (recordOf blank) d ≡ true → UpdateDoes (read f x) d a e → Taken s d a e
+  -- a line that the grammar refuses is refused by that number at that place
+  pub refuses : (f : Form) (x : List ℕ) (n p : ℕ) (d e : Buffers) (a : Answer) → read f x ≡ refused n p
+      → ReadDoes (read f x) d a e → a ≡ answer.Refused (refusal n p)
+  -- no sheet holds two sentences
+  pub holds-one : (r : Record) (d : Buffers) (s t : Sentence) → Holds r d s → Holds r d t → s ≡ t
+  -- a writer puts the written line of the sentence that a sheet holds
+  pub writes : (f : Form) (r : Record) (d : Buffers) (s : Sentence) (out out′ : List ℕ) (a : Number) → Holds r d s → needed f s ≤ length out
+      → Written f r d out a out′ → (a ≡ number.Is (needed f s)) × (out′ ≡ over (written f s) out)
+  -- a step of the cursor, and all tokens
+  pub steps : (r : Record) (d : Buffers) (s : Sentence) (p : ℕ) (a : Next) → Holds r d s → a ≡ nextOf r d p
+      → a ≡ next.Is (stepOf (nextToken (marks s) (count s) p))
+  pub lists : (r : Record) (d : Buffers) (s : Sentence) (l l′ : List Token) (a : Number) → Holds r d s → length (tokensFrom (marks s) 0) ≤ length l
+      → Listed r d l a l′ → (a ≡ number.Is (length (tokensFrom (marks s) 0))) × (l′ ≡ over (map spanOf (tokensFrom (marks s) 0)) l)
+  -- the position maps: a character's byte position, and back to the character
+  pub char-to-byte : (r : Record) (d : Buffers) (s : Sentence) (i : ℕ) (a : Number) → Holds r d s → i ≤ count s
+      → a ≡ charToStrPos (isSheet r d) (spell r d) i → a ≡ number.Is (getD (charPositions (text s)) i 0)
+  pub byte-to-char : (r : Record) (d : Buffers) (s : Sentence) (i : ℕ) (a : Number) → Holds r d s → i ≤ count s
+      → a ≡ strToCharPos (isSheet r d) (spell r d) (getD (charPositions (text s)) i 0) → a ≡ number.Is i
+  -- a cell is that of the Rust's padded table
+  pub cells : (s : Sentence) (row column : ℕ) → row < length (rows s) → getD (getD (table s) row []) column [] ≡ cell s row column
+  -- types by the 18 ranges, which are sorted
+  pub types : (c : ℕ) → typeOf c ≡ find ranges c
+  pub sorted : T (ascending 0 ranges)
+  -- UTF-8: encoding and decoding undo each other
+  pub decodes : (cs : List ℕ) → All (λ (c : ℕ). scalar c ≡ true) cs → scalars (encodes cs) ≡ cs
+  pub encodes-back : (x : List ℕ) → validPrefix x ≡ length x → encodes (scalars x) ≡ x
+  -- the worked lines of document 01, and more
+  pub worked-lines : map given worked ≡ map (λ (c : Case). c .wanted) worked
