@@ -55,6 +55,17 @@ linked() {
     fi
 }
 
+# The examples of calling the port from C and from Rust.
+called() {
+    if ! command -v rt >/dev/null; then
+        echo 'host: not run, for rt is not at hand: the examples in C and in Rust'
+    elif ! find_x86; then
+        echo 'host: not run, for there is no compiler here for x86-64, nor could one be installed: the examples in C and in Rust'
+    else
+        check 'the examples in C and in Rust link the port and print what they should' "$here/example.sh"
+    fi
+}
+
 check 'the gate adds up its parts and fails where it should' "$here/gate-test.sh"
 if ! find_src && [ -z "${VAPORETTO_SRC-}" ]; then
     echo "host: not run, for the original's sources are not at hand (VAPORETTO_SRC): the oracle, its tests, the recorded lists, the port beside the original"
@@ -67,5 +78,6 @@ elif check 'the original, unchanged, compiles beside the stand-ins' "$here/build
     respelled
     linked
 fi
+called
 echo "$passed passed, $failed failed"
 [ "$failed" = 0 ]

@@ -21,17 +21,20 @@ new_enough() {
     rustdoc=${rustc%/*}/rustdoc
 }
 
-# Sets `x86` to the call of a compiler for x86-64, the only processor of a static library of Rattle, and `run` to what runs its programs, or fails.
+# Sets `x86` to the call of a compiler for x86-64, the only processor of a static library of Rattle, `cc` to one for C, and `run` to what runs
+# their programs, or fails.
 find_x86() {
     case $(uname -m) in
     x86_64)
         find_rustc || return 1
         x86=("$rustc")
+        cc=(cc)
         run=()
         ;;
     aarch64)
         crosses || { install_cross && crosses; } || return 1
         x86=(/usr/bin/rustc --target x86_64-unknown-linux-gnu -C linker=x86_64-linux-gnu-gcc)
+        cc=(x86_64-linux-gnu-gcc)
         run=(/usr/bin/qemu-x86_64)
         ;;
     *) return 1 ;;

@@ -1,0 +1,64 @@
+/* The port for a host in C on x86-64: what the static libraries of crates/convert (ighdelmur_convert) and crates/exports (the rest) offer.
+ * both/port.rs declares the same for Rust; `rt staticlib NAME` makes target/staticlib/libNAME.a.
+ *
+ * A slice is a pointer and a length in elements. A pointer is never null, also where its length is 0, and a slice that a call writes into
+ * overlaps no other. Any bytes and any numbers may be given. A refused call alters none of the memory that it is lent.
+ *
+ * An answer of 2^63 or more is a refusal: 2^63 plus 256 times its place plus its number. README.md lists the numbers. */
+#ifndef IGHDELMUR_H
+#define IGHDELMUR_H
+
+#include <stddef.h>
+#include <stdint.h>
+
+#ifdef __cplusplus
+extern "C" {
+#endif
+
+/* The forms by number; the writers have no raw form. */
+enum { IGHDELMUR_RAW = 0, IGHDELMUR_TOKENIZED = 1, IGHDELMUR_PARTIAL = 2 };
+
+/* Whether an answer is a refusal, the refusal's number, and its place. */
+static inline int ighdelmur_refused(uint64_t answer) { return (int)(answer >> 63); }
+static inline unsigned ighdelmur_number(uint64_t answer) { return (unsigned)(answer & 255); }
+static inline uint64_t ighdelmur_place(uint64_t answer) { return (answer & (UINT64_MAX >> 1)) >> 8; }
+
+/* Reads `line` in the form `reader` and writes it in the form `writer` into `out`, behind the bytes before `at`: answers where the written line ends.
+ * Refuses: 16 an unknown form, 14 `room` over 1,048,576 or `at` past it (both at 0), 1 to 10 what the reader refuses, 12 too little room (the
+ * place is the written line's length). */
+uint64_t ighdelmur_convert(uint32_t reader, uint32_t writer, const uint8_t *line, size_t length, uint8_t *out, size_t room, size_t at);
+
+/* Reads `line` in a form into eight buffers: answers 0, with N, B, columns, K and G as the first five of `numbers`. Room needed: text B, types N,
+ * boundaries N-1, char_pos N+1, byte_pos B+1, row_ends N, tag_ends K, tag_bytes G; the line's length plus 1 is enough for each.
+ * Refuses: 16 an unknown form, 14 fewer than five `numbers` (both at 0), 1 to 10 what the reader refuses, 11 a buffer without the room. */
+uint64_t ighdelmur_read(uint32_t form, const uint8_t *line, size_t length,
+                        uint8_t *text, size_t text_room, uint8_t *types, size_t types_room,
+                        uint8_t *boundaries, size_t boundaries_room, uint16_t *char_pos, size_t char_pos_room,
+                        uint16_t *byte_pos, size_t byte_pos_room, uint16_t *row_ends, size_t row_ends_room,
+                        uint16_t *tag_ends, size_t tag_ends_room, uint8_t *tag_bytes, size_t tag_bytes_room,
+                        uint64_t *numbers, size_t numbers_room);
+
+/* Writes the sentence of the buffers, whose five numbers are given, into `out`: answers the written line's length.
+ * Refuses: 16 an unknown form, 13 numbers and buffers that are no sentence (both at 0), 12 too little room (the place is the line's length). */
+uint64_t ighdelmur_write(uint32_t form, size_t n, size_t b, size_t columns, size_t k, size_t g,
+                         const uint8_t *text, size_t text_room, const uint8_t *types, size_t types_room,
+                         const uint8_t *boundaries, size_t boundaries_room, const uint16_t *char_pos, size_t char_pos_room,
+                         const uint16_t *byte_pos, size_t byte_pos_room, const uint16_t *row_ends, size_t row_ends_room,
+                         const uint16_t *tag_ends, size_t tag_ends_room, const uint8_t *tag_bytes, size_t tag_bytes_room,
+                         uint8_t *out, size_t room);
+
+/* The token that is the first from character `p` on: answers 1 with its start and end in `span`, where its end is the next `p`; or 0, where no
+ * token is left, with the cursor's place as the first of `span`.
+ * Refuses: 13 numbers and buffers that are no sentence, 14 fewer than two numbers in `span` (both at 0). */
+uint64_t ighdelmur_next_token(size_t n, size_t b, size_t columns, size_t k, size_t g,
+                              const uint8_t *text, size_t text_room, const uint8_t *types, size_t types_room,
+                              const uint8_t *boundaries, size_t boundaries_room, const uint16_t *char_pos, size_t char_pos_room,
+                              const uint16_t *byte_pos, size_t byte_pos_room, const uint16_t *row_ends, size_t row_ends_room,
+                              const uint16_t *tag_ends, size_t tag_ends_room, const uint8_t *tag_bytes, size_t tag_bytes_room,
+                              size_t p, uint64_t *span, size_t span_room);
+
+#ifdef __cplusplus
+}
+#endif
+
+#endif
