@@ -22,8 +22,8 @@ use Rattle.sheet.specs.declared.Answer.the-variants as answer
 use Rattle.sheet.specs.Layout.{Buffers, recordOf, roomFor, laid, Holds, spell}
 use Rattle.sheet.proofs.Held.{laid-holds, spelled}
 use Rattle.fill.specs.Fill.{Same}
-use Rattle.read.specs.Read.{lacks, readAnswer, readLeaves, Does, ReadDoes}
-use Rattle.read.proofs.Ways.{same-is}
+use Rattle.load.specs.Load.{lacks, readAnswer, readLeaves, Does, ReadDoes}
+use Rattle.load.proofs.Ways.{same-is}
 use Rattle.write.proofs.Laws.{took}
 use Rattle.demands.specs.Demands.{Respelt, Demand3}
 
