@@ -1,5 +1,5 @@
 #!/usr/bin/env bash
-# Builds target/host/x86/both: the original and the port's static library in one program. Does nothing where nothing has changed since.
+# Builds target/host/x86/both: the original and the port's static libraries in one program. Does nothing where nothing has changed since.
 # Beside it stands both_wrong, whose port can be made wrong: it tests whether that is reported.
 set -eu
 . "$(dirname "${BASH_SOURCE[0]}")/tools.sh"
@@ -7,10 +7,10 @@ find_src || { echo "host/link.sh: no sentence.rs and predictor.rs: set VAPORETTO
 find_x86 || { echo 'host/link.sh: no rustc of 1.83 or later that links for x86-64'; exit 1; }
 out=$out/x86
 mkdir -p "$out"
-(cd "$here/.." && rt staticlib exports) >"$out/staticlib.log" 2>&1 </dev/null || { cat "$out/staticlib.log"; exit 1; }
+(cd "$here/.." && rt staticlib exports && rt staticlib convert) >"$out/staticlib.log" 2>&1 </dev/null || { cat "$out/staticlib.log"; exit 1; }
 archives=${here%/*}/target/staticlib
 
-stamp=$("${x86[@]}" --version; echo "$src"; cat "$archives/libexports.a" "$src/sentence.rs" "$src/predictor.rs" "$here"/{link,tools}.sh "$here"/*/*.rs | sha256sum)
+stamp=$("${x86[@]}" --version; echo "$src"; cat "$archives"/lib{exports,convert}.a "$src/sentence.rs" "$src/predictor.rs" "$here"/{link,tools}.sh "$here"/*/*.rs | sha256sum)
 [ "$stamp" != "$(cat "$out/stamp" 2>/dev/null)" ] || exit 0
 rm -f "$out/stamp"
 extract "$out"

@@ -2,12 +2,15 @@
 
 use crate::parts::{Answer, Buffers, Form, Lent, Record, Refusal, AMPLE, LONGEST};
 
-/// What the static library of crates/exports offers: a slice is a pointer and a length.
+/// What the static libraries of crates/convert and crates/exports offer: a slice is a pointer and a length.
 mod exported {
-    #[link(name = "exports", kind = "static")]
+    #[link(name = "convert", kind = "static")]
     extern "C" {
         pub fn ighdelmur_convert(reader: u32, writer: u32, line: *const u8, length: usize, out: *mut u8, room: usize, at: usize) -> u64;
+    }
 
+    #[link(name = "exports", kind = "static")]
+    extern "C" {
         pub fn ighdelmur_read(
             form: u32,
             line: *const u8,

@@ -36,8 +36,10 @@ use Rattle.sheet.proofs.Exact.{is-sheet, holds-is}
 use Rattle.lookups.specs.Answers.{found, charToStrPos, strToCharPos, boundaryAt, tagPart, tagAt, surfaceAt, bytesOf}
 use Rattle.changes.specs.Changes.{Lays, defaultAnswer, DefaultSet, boundaryAnswer, BoundarySet, resetAnswer, TagsReset}
 use Rattle.scores.specs.Scores.{scoreAnswer, Predicted}
-use Rattle.read.specs.Read.{lacks, readAnswer, readLeaves, ReadDoes, updateAnswer, updateLeaves, UpdateDoes}
-use Rattle.read.proofs.Ways.{same-is}
+use Rattle.load.specs.Load.{lacks, readAnswer, readLeaves, ReadDoes}
+use Rattle.read.specs.Read.{updateAnswer, updateLeaves, UpdateDoes}
+use Rattle.load.proofs.Ways.{same-is}
+use Rattle.tokens.specs.declared.Next.{Next}
 use Rattle.tokens.specs.declared.Next.the-variants as step-answer
 use Rattle.tokens.specs.declared.Token.{Token}
 use Rattle.tokens.specs.Steps.{spanOf, tokensOf, nextOf, listOrder, countOf, Listed}
@@ -46,6 +48,7 @@ use Rattle.passage.specs.declared.Converted.{Converted}
 use Rattle.passage.specs.Between.{Outcome, writes, formOf, between, answerOf, outputOf, Converts}
 use Rattle.passage.specs.Between.{refuses as no-line}
 use Rattle.convert.specs.Convert.{unknownForms, outOfRange, conversion, codeOf}
+use Rattle.exports.specs.Exports.{noReader, readFirst, readCode, readNumbers, hostAnswer, hostLeaves, HostReads, hostWriteOrder, numberCode, HostWrites, spanned, stepCode, stepSpan, HostSteps}
 use Rattle.respelling.specs.declared.Turn.{Turn}
 use Rattle.respelling.specs.Stream.{turn, Turned}
 use Rattle.respelling.proofs.Turns.{used-within, wrote-within}
@@ -461,6 +464,63 @@ decided : (r : Record) (d e : Buffers) (zs : List ℤ) (a : Answer) → Predicte
 unfolding scoreAnswer
 decided r d e zs a w = lays ((13, 0) ∷ (14, length zs) ∷ []) _ _ a (sheet-13-14 (not (isSheet r d)) _ (length zs)) w
 
+-- ---- the host's other calls
+module _ (f : ℕ) (x : List ℕ) (d : Buffers) (ns : List ℕ) where
+  abbrev read-refusals : List (ℕ × ℕ)
+  read-refusals = (16, 0) ∷ (14, 0) ∷ (11, 0) ∷ inLine (formOf f) x
+
+  -- by whether the form is unknown, whether the numbers are too few, and what the line reads to
+  abbrev answered : Bool → Bool → Result → Answer
+  answered b c r = verdict answer.Refused (check b 16 0 ∷ check c 14 0 ∷ []) (readAnswer r d)
+
+  told : (b c : Bool) (r : Result) → Told (formOf f) (length x) r
+      → Settled {M = Buffers × List ℕ} read-refusals (ofAnswer (answered b c r)) (d, ns) (verdict (λ (q : Refusal). d) (check b 16 0 ∷ check c 14 0 ∷ []) (readLeaves r d), readNumbers (answered b c r) ns)
+  unfolding verdict readAnswer readLeaves readerOrder readNumbers if_then_else_ ofAnswer oneOf
+  told true c r h = (refl, refl)
+  told false true r h = (refl, refl)
+  told false false (refused n p) h = (
+    more (16, 0) ((14, 0) ∷ (11, 0) ∷ inLine (formOf f) x) (refusal n p)
+        (more (14, 0) ((11, 0) ∷ inLine (formOf f) x) (refusal n p) (more (11, 0) (inLine (formOf f) x) (refusal n p) h)),
+    refl,
+  )
+  told false false (sentence s) h = on (lacks d s)
+    where
+      on : (b : Bool) → Settled {M = Buffers × List ℕ} read-refusals (ofAnswer (if b then answer.Refused (refusal 11 0) else answer.Sentence (recordOf s))) (d, ns)
+          (if b then d else laid s d, readNumbers (if b then answer.Refused (refusal 11 0) else answer.Sentence (recordOf s)) ns)
+      on true = (refl, refl)
+      on false = tt
+
+  host-reads : (e : Buffers) (ns′ : List ℕ) (a : ℕ) → HostReads f x d ns a e ns′
+      → (c : Answer) × (a ≡ readCode c) × Settled {M = Buffers × List ℕ} read-refusals (ofAnswer c) (d, ns) (e, ns′)
+  unfolding hostAnswer hostLeaves readFirst
+  host-reads e ns′ a w =
+      (hostAnswer f x d (length ns), w .answer-is, rw (same-is (w .buffers-are), w .numbers-are) (told (noReader f) (ltb (length ns) 5) (read (formOf f) x) (read-told (formOf f) x)))
+
+host-writes : (f : ℕ) (r : Record) (d : Buffers) (out out′ : List ℕ) (a : ℕ) → HostWrites f r d out a out′
+    → (c : Number) × (a ≡ numberCode c) × Settled ((16, 0) ∷ (13, 0) ∷ (12, length (lineOf (formOf f) r d)) ∷ []) (ofNumber c) out out′
+unfolding hostWriteOrder writeOrder oneOf
+host-writes f r d out out′ a w =
+    let n = length (lineOf (formOf f) r d) in (
+      verdict number.Refused (hostWriteOrder f r d (length out)) (number.Is n),
+      w .answer-is,
+      rw (w .out-is)
+          (settles ofNumber number.Refused tells-number ((16, 0) ∷ (13, 0) ∷ (12, n) ∷ []) (hostWriteOrder f r d (length out)) (number.Is n) out (put (lineOf (formOf f) r d) out) (serves-number n)
+          (λ e. refl, (λ e. refl, (λ e. absurd (false≢true e), (λ e. rw (leb-self n), tt))))),
+    )
+
+-- a step, told in a span with so much room
+spans : (s : Next) (span : List ℕ) (b : Bool) → ltb (length span) 2 ≡ b → Answers ((13, 0) ∷ []) (ofNext s)
+    → Settled ((14, 0) ∷ (13, 0) ∷ []) (ofNext (spanned (length span) s)) span (stepSpan (spanned (length span) s) span)
+unfolding spanned stepSpan verdict if_then_else_ ofNext oneOf
+spans (step-answer.Is s) span true e h = rw e (refl, refl)
+spans (step-answer.Is s) span false e h = rw e tt
+spans (step-answer.Refused q) span b e h = (more (14, 0) ((13, 0) ∷ []) q h, refl)
+
+host-steps : (r : Record) (d : Buffers) (p : ℕ) (span span′ : List ℕ) (a : ℕ) → HostSteps r d p span a span′
+    → (c : Next) × (a ≡ stepCode c) × Settled ((14, 0) ∷ (13, 0) ∷ []) (ofNext c) span span′
+host-steps r d p span span′ a w =
+    (spanned (length span) (nextOf r d p), w .answer-is, rw (w .span-is) (spans (nextOf r d p) span (ltb (length span) 2) refl (stepped r d p)))
+
 -- ---- the program's pieces
 spent : (s out out′ : List ℕ) (skip last : Bool) (a : Turn) → Turned (turn last skip (length out) s) out a out′ → length out′ ≡ length out
     → (a .used ≤ length s) × (a .wrote ≤ length out)
@@ -471,6 +531,7 @@ spent s out out′ skip last a w k =
 -- ---- the demand
 pub demand-1 : Demand1
 demand-1 = record {
+  load = λ f x d e a w. reader f x d e a w;
   from-raw = λ x d e a w. reader raw x d e a w;
   from-tokenized = λ x d e a w. reader tokenized x d e a w;
   from-partial-annotation = λ x d e a w. reader partial x d e a w;
@@ -495,6 +556,9 @@ demand-1 = record {
   check = λ r d a e. (λ h. is-sheet r d (sym e ∙ h), λ h. e ∙ holds-is r d (spell r d) h);
   convert = λ f g x out out′ p a w. converts f g x out out′ p a w;
   ighdelmur-convert = λ f g x out out′ p a w. converts-host f g x out out′ p a w;
+  ighdelmur-read = λ f x d e ns ns′ a w. host-reads f x d ns e ns′ a w;
+  ighdelmur-write = λ f r d out out′ a w. host-writes f r d out out′ a w;
+  ighdelmur-next-token = λ r d p span span′ a w. host-steps r d p span span′ a w;
   respell = λ s out out′ skip last a w k. spent s out out′ skip last a w k;
   decode = λ s p a e. rw e (stands s p);
   encode = λ v a e. rw e (encoded-small v);

@@ -26,8 +26,9 @@ use Rattle.sheet.proofs.Held.{laid-holds, spelled, holds-once}
 use Rattle.sheet.proofs.Exact.{holds-is}
 use Rattle.lookups.specs.Answers.{startAt, charToStrPos, strToCharPos}
 use Rattle.lookups.proofs.Parts.{cell-of-table, positions-back}
-use Rattle.read.specs.Read.{lacks, readAnswer, readLeaves, ReadDoes, updateAnswer, updateLeaves, UpdateDoes}
-use Rattle.read.proofs.Ways.{same-is}
+use Rattle.load.specs.Load.{lacks, readAnswer, readLeaves, ReadDoes}
+use Rattle.read.specs.Read.{updateAnswer, updateLeaves, UpdateDoes}
+use Rattle.load.proofs.Ways.{same-is}
 use Rattle.tokens.specs.declared.Token.{Token}
 use Rattle.tokens.specs.declared.Next.{Next}
 use Rattle.tokens.specs.declared.Next.the-variants as next

@@ -19,8 +19,8 @@ use Rattle.sheet.specs.declared.Answer.the-variants as answer
 use Rattle.sheet.specs.Layout.{Buffers, recordOf, roomFor, laid, Holds}
 use Rattle.sheet.proofs.Held.{laid-holds, spelled}
 use Rattle.fill.specs.Fill.{Same}
-use Rattle.read.specs.Read.{lacks, readAnswer, readLeaves, ReadDoes}
-use Rattle.read.proofs.Ways.{same-is}
+use Rattle.load.specs.Load.{lacks, readAnswer, readLeaves, ReadDoes}
+use Rattle.load.proofs.Ways.{same-is}
 use Rattle.write.proofs.Laws.{took}
 use Rattle.demands.specs.Demand3.{Respelt, Demand3}
 

@@ -29,7 +29,8 @@ use Rattle.sheet.specs.Check.{isSheet}
 use Rattle.lookups.specs.Answers.{charToStrPos, strToCharPos, boundaryAt, tagAt, surfaceAt, bytesOf}
 use Rattle.changes.specs.Changes.{DefaultSet, BoundarySet, TagsReset}
 use Rattle.scores.specs.Scores.{Predicted}
-use Rattle.read.specs.Read.{lacks, ReadDoes, UpdateDoes}
+use Rattle.load.specs.Load.{lacks, ReadDoes}
+use Rattle.read.specs.Read.{UpdateDoes}
 use Rattle.tokens.specs.declared.Token.{Token}
 use Rattle.tokens.specs.declared.Next.{Next}
 use Rattle.tokens.specs.declared.Next.the-variants as next
@@ -39,6 +40,7 @@ use Rattle.passage.specs.declared.Converted.{Converted}
 use Rattle.passage.specs.declared.Converted.the-variants as converted
 use Rattle.passage.specs.Between.{formOf, Converts}
 use Rattle.convert.specs.Convert.{conversion, codeOf}
+use Rattle.exports.specs.Exports.{readCode, HostReads, numberCode, HostWrites, stepCode, HostSteps}
 use Rattle.respelling.specs.declared.Turn.{Turn}
 use Rattle.respelling.specs.Stream.{turn, Turned}
 
@@ -114,7 +116,8 @@ Stands s at decoded.Bad = Unit {0}
 Stands s at decoded.End = Unit {0}
 
 pub record Demand1 : Type 0 where
-  -- the readers
+  -- the readers; `load` is given the form
+  pub load : (f : Form) (line : List ℕ) (d e : Buffers) (a : Answer) → ReadDoes (read f line) d a e → Settled ((11, 0) ∷ inLine f line) (ofAnswer a) d e
   pub from-raw : (line : List ℕ) (d e : Buffers) (a : Answer) → ReadDoes (read raw line) d a e → Settled ((11, 0) ∷ inLine raw line) (ofAnswer a) d e
   pub from-tokenized : (line : List ℕ) (d e : Buffers) (a : Answer) → ReadDoes (read tokenized line) d a e
       → Settled ((11, 0) ∷ inLine tokenized line) (ofAnswer a) d e
@@ -160,6 +163,13 @@ pub record Demand1 : Type 0 where
       → Converts codeOf (conversion reader writer line (length out) at) at out a out′
       → (c : Converted) × (a ≡ codeOf c)
       × Settled ((16, 0) ∷ (14, 0) ∷ (12, neededOf (formOf writer) (read (formOf reader) line)) ∷ inLine (formOf reader) line) (ofConverted c) out out′
+  -- the host's other calls, whose number is that of an answer
+  pub ighdelmur-read : (form : ℕ) (line : List ℕ) (d e : Buffers) (ns ns′ : List ℕ) (a : ℕ) → HostReads form line d ns a e ns′
+      → (c : Answer) × (a ≡ readCode c) × Settled {M = Buffers × List ℕ} ((16, 0) ∷ (14, 0) ∷ (11, 0) ∷ inLine (formOf form) line) (ofAnswer c) (d, ns) (e, ns′)
+  pub ighdelmur-write : (form : ℕ) (r : Record) (d : Buffers) (out out′ : List ℕ) (a : ℕ) → HostWrites form r d out a out′
+      → (c : Number) × (a ≡ numberCode c) × Settled ((16, 0) ∷ (13, 0) ∷ (12, length (lineOf (formOf form) r d)) ∷ []) (ofNumber c) out out′
+  pub ighdelmur-next-token : (r : Record) (d : Buffers) (p : ℕ) (span span′ : List ℕ) (a : ℕ) → HostSteps r d p span a span′
+      → (c : Next) × (a ≡ stepCode c) × Settled ((14, 0) ∷ (13, 0) ∷ []) (ofNext c) span span′
   -- a piece of the program's input: it never refuses, and uses and writes no more than there is
   pub respell : (input out out′ : List ℕ) (skip last : Bool) (a : Turn) → Turned (turn last skip (length out) input) out a out′ → length out′ ≡ length out
       → (a .used ≤ length input) × (a .wrote ≤ length out)

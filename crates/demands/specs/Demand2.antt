@@ -23,7 +23,8 @@ use Rattle.sheet.specs.declared.Number.the-variants as number
 use Rattle.sheet.specs.Layout.{Buffers, recordOf, roomFor, tagsOf, rowEnds, tagEnds, bytesOf, Holds, spell}
 use Rattle.sheet.specs.Check.{isSheet}
 use Rattle.lookups.specs.Answers.{charToStrPos, strToCharPos, cell}
-use Rattle.read.specs.Read.{ReadDoes, UpdateDoes}
+use Rattle.load.specs.Load.{ReadDoes}
+use Rattle.read.specs.Read.{UpdateDoes}
 use Rattle.tokens.specs.declared.Token.{Token}
 use Rattle.tokens.specs.declared.Next.{Next}
 use Rattle.tokens.specs.declared.Next.the-variants as next

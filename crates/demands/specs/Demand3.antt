@@ -10,7 +10,7 @@ use Rattle.sheet.specs.declared.Record.{Record}
 use Rattle.sheet.specs.declared.Answer.the-variants as answer
 use Rattle.sheet.specs.declared.Number.the-variants as number
 use Rattle.sheet.specs.Layout.{Buffers}
-use Rattle.read.specs.Read.{ReadDoes}
+use Rattle.load.specs.Load.{ReadDoes}
 use Rattle.write.specs.Answers.{Written}
 
 -- Reading the line x in the form f leaves a sentence in the buffers, by the readers' contract; writing it in the form g puts w at the front

@@ -3,88 +3,11 @@ use reader::Form;
 use sentence::Refusal;
 use sheet::Answer;
 use sheet::Record;
-ghost use mathlib.Core.Path.{_≡_};
-ghost use Prim.Native.Nat.{_≤_};
 ghost use Rattle.sentence.specs.Reading.{raw, tokenized, partial, read};
 ghost use Rattle.sheet.specs.Layout.{buffers};
 ghost use Rattle.reader.specs.Flags.{formOf};
-ghost use Rattle.read.specs.Read.{roomIn, ReadDoes, UpdateDoes};
-
-// Whether buffers of these lengths have the room that a record needs.
-fn has_room(
-    r: Record,
-    text: usize,
-    types: usize,
-    boundaries: usize,
-    char_pos: usize,
-    byte_pos: usize,
-    row_ends: usize,
-    tag_ends: usize,
-    tag_bytes: usize,
-) -> bool
-    requires { ⌜ (1 ≤ r .n) × (r .n ≤ 4096) × (r .b ≤ 4096) ⌝ }
-    ensures { λ ok. ⌜ ok ≡ roomIn r text types boundaries «char_pos» «byte_pos» «row_ends» «tag_ends» «tag_bytes» ⌝ }
-{
-    (r.b <= text)
-        & (r.n <= types)
-        & (r.n - 1 <= boundaries)
-        & (r.n + 1 <= char_pos)
-        & (r.b + 1 <= byte_pos)
-        & (r.n <= row_ends)
-        & (r.k <= tag_ends)
-        & (r.g <= tag_bytes)
-}
-
-// A line of a form: what refuses it is found first, then the room, and only then is anything stored.
-fn read(
-    form: Form,
-    line: &[u8],
-    text: &mut [u8],
-    types: &mut [u8],
-    boundaries: &mut [u8],
-    char_pos: &mut [u16],
-    byte_pos: &mut [u16],
-    row_ends: &mut [u16],
-    tag_ends: &mut [u16],
-    tag_bytes: &mut [u8],
-) -> Answer
-    ensures { λ r. ⌜ ReadDoes (read (formOf form) (now (line .entry))) (buffers (now (text .entry)) (now (types .entry)) (now (boundaries .entry)) (now («char_pos» .entry)) (now («byte_pos» .entry)) (now («row_ends» .entry)) (now («tag_ends» .entry)) (now («tag_bytes» .entry))) r (buffers (now (text .exit)) (now (types .exit)) (now (boundaries .exit)) (now («char_pos» .exit)) (now («byte_pos» .exit)) (now («row_ends» .exit)) (now («tag_ends» .exit)) (now («tag_bytes» .exit))) ⌝ }
-{
-    match scan::scan(form, line) {
-        Answer::Refused(refusal) => Answer::Refused(refusal),
-        Answer::Sentence(r) => {
-            if !has_room(
-                r,
-                text.len(),
-                types.len(),
-                boundaries.len(),
-                char_pos.len(),
-                byte_pos.len(),
-                row_ends.len(),
-                tag_ends.len(),
-                tag_bytes.len(),
-            ) {
-                return Answer::Refused(Refusal {
-                    number: 11,
-                    place: 0,
-                });
-            }
-            fill::given::fill(
-                form,
-                line,
-                text,
-                types,
-                boundaries,
-                char_pos,
-                byte_pos,
-                row_ends,
-                tag_ends,
-                tag_bytes,
-            );
-            Answer::Sentence(r)
-        }
-    }
-}
+ghost use Rattle.load.specs.Load.{ReadDoes};
+ghost use Rattle.read.specs.Read.{UpdateDoes};
 
 // The same over a sentence that is there: where the line is refused, the one-blank sentence is laid down.
 fn update(
@@ -101,7 +24,7 @@ fn update(
 ) -> Answer
     ensures { λ r. ⌜ UpdateDoes (read (formOf form) (now (line .entry))) (buffers (now (text .entry)) (now (types .entry)) (now (boundaries .entry)) (now («char_pos» .entry)) (now («byte_pos» .entry)) (now («row_ends» .entry)) (now («tag_ends» .entry)) (now («tag_bytes» .entry))) r (buffers (now (text .exit)) (now (types .exit)) (now (boundaries .exit)) (now («char_pos» .exit)) (now («byte_pos» .exit)) (now («row_ends» .exit)) (now («tag_ends» .exit)) (now («tag_bytes» .exit))) ⌝ }
 {
-    if !has_room(
+    if !load::given::has_room(
         Record {
             n: 1,
             b: 1,
@@ -123,7 +46,7 @@ fn update(
             place: 0,
         });
     }
-    match read(
+    match load::load(
         form,
         line,
         text,
@@ -166,7 +89,7 @@ pub fn from_raw(
 ) -> Answer
     ensures { λ r. ⌜ ReadDoes (read raw (now (line .entry))) (buffers (now (text .entry)) (now (types .entry)) (now (boundaries .entry)) (now («char_pos» .entry)) (now («byte_pos» .entry)) (now («row_ends» .entry)) (now («tag_ends» .entry)) (now («tag_bytes» .entry))) r (buffers (now (text .exit)) (now (types .exit)) (now (boundaries .exit)) (now («char_pos» .exit)) (now («byte_pos» .exit)) (now («row_ends» .exit)) (now («tag_ends» .exit)) (now («tag_bytes» .exit))) ⌝ }
 {
-    read(
+    load::load(
         Form::Raw,
         line,
         text,
@@ -194,7 +117,7 @@ pub fn from_tokenized(
 ) -> Answer
     ensures { λ r. ⌜ ReadDoes (read tokenized (now (line .entry))) (buffers (now (text .entry)) (now (types .entry)) (now (boundaries .entry)) (now («char_pos» .entry)) (now («byte_pos» .entry)) (now («row_ends» .entry)) (now («tag_ends» .entry)) (now («tag_bytes» .entry))) r (buffers (now (text .exit)) (now (types .exit)) (now (boundaries .exit)) (now («char_pos» .exit)) (now («byte_pos» .exit)) (now («row_ends» .exit)) (now («tag_ends» .exit)) (now («tag_bytes» .exit))) ⌝ }
 {
-    read(
+    load::load(
         Form::Tokenized,
         line,
         text,
@@ -222,7 +145,7 @@ pub fn from_partial_annotation(
 ) -> Answer
     ensures { λ r. ⌜ ReadDoes (read partial (now (line .entry))) (buffers (now (text .entry)) (now (types .entry)) (now (boundaries .entry)) (now («char_pos» .entry)) (now («byte_pos» .entry)) (now («row_ends» .entry)) (now («tag_ends» .entry)) (now («tag_bytes» .entry))) r (buffers (now (text .exit)) (now (types .exit)) (now (boundaries .exit)) (now («char_pos» .exit)) (now («byte_pos» .exit)) (now («row_ends» .exit)) (now («tag_ends» .exit)) (now («tag_bytes» .exit))) ⌝ }
 {
-    read(
+    load::load(
         Form::Partial,
         line,
         text,

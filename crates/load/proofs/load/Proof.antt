@@ -1,7 +1,7 @@
-use Rattle.read.proofs.Ways.{read-small, read-refused, read-lacks, read-fits, read-done}
+use Rattle.load.proofs.Ways.{read-small, read-refused, read-lacks, read-fits, read-done}
 use borrow.Author.Needs.{needs}
-use Rattle.read.proofs.read.Statement.{statement}
-use Rattle.read.proofs.read.Tie as tie
+use Rattle.load.proofs.load.Statement.{statement}
+use Rattle.load.proofs.load.Tie as tie
 
 scan-requires : tie.Need-scan-requires
 scan-requires c κs = search needs
@@ -51,8 +51,8 @@ same-length-8 c = search needs
 returns-3 : tie.Need-returns-3
 returns-3 c = read-done _ _ _ _ _ (c .before .before .before .before .before .before .before .before .before .before .before .before .before .before .before .before .before .before .before .before .before .before .before .before .before .before .before .before .before .before .scan .ensures) (c .before .before .before .before .before .before .before .before .before .before .before .before .before .before .before .before .before .before .before .before .before .before .before .before .before .before .before .before .r .given .1) (c .before .before .before .before .before .before .before .before .before .before .before .before .before .before .before .before .before .before .before .before .before .before .before .before .before .before .has-room .ensures) (c .before .before .before .before .before .before .before .before .before .before .before .before .before .before .before .before .before .before .before .before .before .before .before .before .before .if1 .left) (c .before .before .before .before .before .before .before .before .before .before .before .before .before .before .before .before .fill .ensures)
 
-pub read-spec : {M : Type 1} → statement M
-read-spec =
+pub load-spec : {M : Type 1} → statement M
+load-spec =
     tie.close
     (tie.spec
     scan-requires

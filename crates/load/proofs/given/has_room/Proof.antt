@@ -1,7 +1,7 @@
-use Rattle.read.specs.Read.{roomIn}
+use Rattle.load.specs.Load.{roomIn}
 use borrow.Author.Needs.{needs}
-use Rattle.read.proofs.has_room.Statement.{statement}
-use Rattle.read.proofs.has_room.Tie as tie
+use Rattle.load.proofs.given.has_room.Statement.{statement}
+use Rattle.load.proofs.given.has_room.Tie as tie
 
 sub-result : tie.Need-sub-result
 sub-result c = search needs

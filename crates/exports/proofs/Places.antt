@@ -1,0 +1,78 @@
+-- The places of refusals are small, so that the host's numbers fit 64 bits. Assumes nothing.
+use Prim.Native.Nat.{ℕ, _^_, _≤_, _<_}
+use native.Mathlib.Omega.{arith}
+use mathlib.Core.Path.{_≡_, refl, sym, ap, _∙_}
+use mathlib.Core.Bool.{Bool, true, false, not, false≢true}
+use mathlib.Core.List.{List, []}
+use borrow.Author.Tests.{not-false}
+use lib.Dec.{ltb}
+use lib.ListN.{length}
+use Rattle.laws.specs.If.{if_then_else_, if-cases}
+use Rattle.sentence.specs.declared.Refusal.{Refusal}
+use Rattle.sentence.specs.Sentence.{Sentence}
+use Rattle.sentence.specs.Reading.{Form, Result, sentence, refused, read}
+use Rattle.sentence.specs.Refusals.{refusal, verdict, readerOrder, hostOrder}
+use Rattle.sheet.specs.Layout.{Buffers, recordOf, spell}
+use Rattle.sheet.specs.Check.{isSheet}
+use Rattle.sheet.proofs.Exact.{is-sheet}
+use Rattle.sheet.specs.declared.Record.{Record}
+use Rattle.sheet.specs.declared.Answer.{Answer}
+use Rattle.sheet.specs.declared.Answer.the-variants as answer
+use Rattle.sheet.specs.declared.Number.{Number}
+use Rattle.sheet.specs.declared.Number.the-variants as number
+use Rattle.load.specs.Load.{lacks, readAnswer, ReadDoes}
+use Rattle.write.specs.Answers.{lineOf, writeOrder, Written}
+use Rattle.tokens.specs.Steps.{nextOf}
+use Rattle.tokens.specs.declared.Next.{Next}
+use Rattle.tokens.specs.declared.Next.the-variants as next
+use Rattle.passage.specs.Between.{Outcome, refuses, formOf, between, answerOf, outputOf}
+use Rattle.passage.specs.declared.Converted.the-variants as converted
+use Rattle.convert.specs.Convert.{unknownForms, outOfRange, conversion}
+use Rattle.convert.proofs.Lengths.{written-small}
+use Rattle.convert.proofs.Codes.{small-place}
+use Rattle.exports.specs.Exports.{Near, noReader, NearAnswer, NearNumber, NearNext}
+
+-- ---- a reader's: a conversion of the line is refused at the same place
+read-place : (f : ℕ) (x : List ℕ) (n p : ℕ) → noReader f ≡ false → read (formOf f) x ≡ refused n p → p < 2 ^ 32
+unfolding noReader unknownForms outOfRange conversion between hostOrder verdict answerOf outputOf if_then_else_
+read-place f x n p h e =
+    let o : conversion f 1 x 0 0 ≡ refuses (refusal n p) = rw (h, e) in
+    small-place f 1 x 0 0 {out = []} {end = []} {q = refusal n p} (record { answer = ap (answerOf 0) (sym o); output = ap (λ (y : Outcome). outputOf 0 y []) (sym o) }) refl
+
+pub near-read : (f : ℕ) (g : Form) (x : List ℕ) (d : Buffers) {b : Bool} {e : Buffers} {a : Answer}
+    → b ≡ noReader f → b ≡ false → g ≡ formOf f → ReadDoes (read g x) d a e → NearAnswer a
+unfolding readAnswer readerOrder verdict NearAnswer
+near-read f g x d {a} i h q w = rw (w .answer-is, q) (on (read (formOf f) x) refl)
+  where
+    on : (r : Result) → read (formOf f) x ≡ r → NearAnswer (readerOrder answer.Refused (lacks d) (λ (s : Sentence). answer.Sentence (recordOf s)) r)
+    on (refused n p) e = read-place f x n p (sym i ∙ h) e
+    on (sentence s) e = if-cases NearAnswer (lacks d s) _ _ (λ _. omega arith) (λ _. tt)
+
+pub answer-near : {a : Answer} {q : Refusal} → NearAnswer a → a ≡ answer.Refused q → q .place < 2 ^ 32
+unfolding NearAnswer
+answer-near h e = rw e at h
+
+-- ---- a writer's
+pub near-written : (f : Form) (r : Record) (d : Buffers) {out out′ : List ℕ} {a : Number} → Written f r d out a out′ → NearNumber a
+unfolding writeOrder verdict NearNumber
+near-written f r d {out} w =
+    rw (w .answer-is)
+    (if-cases NearNumber (not (isSheet r d)) _ _ (λ _. omega arith)
+    (λ e. if-cases NearNumber false _ _ (λ _. omega arith)
+    (λ _. if-cases NearNumber (ltb (length out) (length (lineOf f r d))) _ _ (λ _. written-small (spell r d) (is-sheet r d (not-false _ e) .formed) f) (λ _. tt))))
+
+pub number-near : {a : Number} {q : Refusal} → NearNumber a → a ≡ number.Refused q → q .place < 2 ^ 32
+unfolding NearNumber
+number-near h e = rw e at h
+
+-- ---- a step's
+pub near-next : (r : Record) (d : Buffers) (p : ℕ) {a : Next} → a ≡ nextOf r d p → NearNext a
+unfolding nextOf verdict NearNext
+near-next r d p e =
+    rw e
+    (if-cases NearNext (not (isSheet r d)) _ _ (λ _. omega arith)
+    (λ _. if-cases NearNext false _ _ (λ h. absurd (false≢true h)) (λ _. if-cases NearNext false _ _ (λ _. omega arith) (λ _. tt))))
+
+pub next-near : {a : Next} {q : Refusal} → NearNext a → a ≡ next.Refused q → q .place < 2 ^ 32
+unfolding NearNext
+next-near h e = rw e at h

@@ -1,0 +1,138 @@
+-- What the host's calls besides the conversion answer as one number, and what they leave in lent memory.
+use Prim.Native.Nat.{ℕ, _<_, _^_}
+use mathlib.Core.Path.{_≡_}
+use mathlib.Core.Bool.{Bool, _||_}
+use mathlib.Core.List.{List, [], _∷_}
+use lib.Dec.{eqb, ltb}
+use lib.ListN.{length}
+use Rattle.laws.specs.Put.{over}
+use Rattle.sentence.specs.Reading.{read}
+use Rattle.sentence.specs.Refusals.{Check, check, verdict}
+use Rattle.sentence.specs.declared.Refusal.{Refusal}
+use Rattle.sheet.specs.Layout.{Buffers}
+use Rattle.sheet.specs.declared.Record.{Record}
+use Rattle.sheet.specs.declared.Answer.{Answer}
+use Rattle.sheet.specs.declared.Answer.the-variants as answer
+use Rattle.sheet.specs.declared.Number.{Number}
+use Rattle.sheet.specs.declared.Number.the-variants as number
+use Rattle.fill.specs.Fill.{Same}
+use Rattle.load.specs.Load.{readAnswer, readLeaves}
+use Rattle.write.specs.Answers.{lineOf, writeOrder}
+use Rattle.tokens.specs.Steps.{nextOf}
+use Rattle.tokens.specs.declared.Step.{Step}
+use Rattle.tokens.specs.declared.Step.the-variants.{Serves, Done}
+use Rattle.tokens.specs.declared.Next.{Next}
+use Rattle.tokens.specs.declared.Next.the-variants as next
+use Rattle.passage.specs.Between.{formOf}
+use Rattle.passage.specs.declared.Converted.the-variants as converted
+use Rattle.convert.specs.Convert.{codeOf}
+
+-- a refusal as the host's number, as a conversion has it
+unfoldable pub refusalCode : Refusal → ℕ
+refusalCode r = codeOf (converted.Refused r)
+
+-- its place is small, so that the number fits 64 bits
+abbrev pub Near : Refusal → Type 0
+Near q = q .place < 2 ^ 32
+
+-- ---- reading
+-- a number above 2 is no form to read
+unfoldable pub noReader : ℕ → Bool
+noReader f = ltb 2 f
+
+-- N, B, columns, K and G
+unfoldable pub numbersOf : Record → List ℕ
+numbersOf r = r .n ∷ r .b ∷ r .columns ∷ r .k ∷ r .g ∷ []
+
+-- before the line is looked at: 16 for an unknown form, 14 for fewer numbers than five
+unfoldable pub readFirst : ℕ → ℕ → List Check
+readFirst f room = check (noReader f) 16 0 ∷ check (ltb room 5) 14 0 ∷ []
+
+-- 0 for a sentence
+unfoldable pub readCode : Answer → ℕ
+readCode (answer.Sentence r) = 0
+readCode (answer.Refused q) = refusalCode q
+
+-- the numbers of a sentence stand at the front; a refusal alters nothing
+unfoldable pub readNumbers : Answer → List ℕ → List ℕ
+readNumbers (answer.Sentence r) ns = over (numbersOf r) ns
+readNumbers (answer.Refused q) ns = ns
+
+-- an answer as the number a, and the numbers after it
+pub record ReadTold (r : Answer) (ns : List ℕ) (a : ℕ) (ns′ : List ℕ) : Type 0 where
+  pub answer-is : a ≡ readCode r
+  pub numbers-are : ns′ ≡ readNumbers r ns
+
+unfoldable pub NearAnswer : Answer → Type 0
+NearAnswer (answer.Sentence r) = Unit {0}
+NearAnswer (answer.Refused q) = Near q
+
+-- a line of a form, with room for so many numbers
+unfoldable pub hostAnswer : ℕ → List ℕ → Buffers → ℕ → Answer
+hostAnswer f x d room = verdict answer.Refused (readFirst f room) (readAnswer (read (formOf f) x) d)
+
+unfoldable pub hostLeaves : ℕ → List ℕ → Buffers → ℕ → Buffers
+hostLeaves f x d room = verdict (λ (q : Refusal). d) (readFirst f room) (readLeaves (read (formOf f) x) d)
+
+-- the number a, and the buffers and the numbers after it
+pub record HostReads (f : ℕ) (x : List ℕ) (d : Buffers) (ns : List ℕ) (a : ℕ) (e : Buffers) (ns′ : List ℕ) : Type 0 where
+  pub answer-is : a ≡ readCode (hostAnswer f x d (length ns))
+  pub buffers-are : Same (hostLeaves f x d (length ns)) e
+  pub numbers-are : ns′ ≡ readNumbers (hostAnswer f x d (length ns)) ns
+
+-- ---- writing
+-- the record of five numbers
+abbrev pub recordIn : ℕ → ℕ → ℕ → ℕ → ℕ → Record
+recordIn n b columns k g = record { n = n; b = b; columns = columns; k = k; g = g }
+
+-- raw is no form to write, nor is a number above 2
+unfoldable pub noWriter : ℕ → Bool
+noWriter f = eqb f 0 || ltb 2 f
+
+-- 16, then what the writer refuses
+unfoldable pub hostWriteOrder : ℕ → Record → Buffers → ℕ → List Check
+hostWriteOrder f r d room = check (noWriter f) 16 0 ∷ writeOrder (formOf f) r d room
+
+-- a length as it is
+unfoldable pub numberCode : Number → ℕ
+numberCode (number.Is n) = n
+numberCode (number.Refused q) = refusalCode q
+
+unfoldable pub NearNumber : Number → Type 0
+NearNumber (number.Is n) = Unit {0}
+NearNumber (number.Refused q) = Near q
+
+-- the number a, and the output after it: the line stands over its front; a refusal alters nothing
+pub record HostWrites (f : ℕ) (r : Record) (d : Buffers) (out : List ℕ) (a : ℕ) (out′ : List ℕ) : Type 0 where
+  pub answer-is : a ≡ numberCode (verdict number.Refused (hostWriteOrder f r d (length out)) (number.Is (length (lineOf (formOf f) r d))))
+  pub out-is : out′ ≡ verdict (λ (q : Refusal). out) (hostWriteOrder f r d (length out)) (over (lineOf (formOf f) r d) out)
+
+-- ---- a step of the token cursor
+-- where the step itself is not refused: 14 for a span of fewer numbers than two
+unfoldable pub spanned : ℕ → Next → Next
+spanned room (next.Is s) = verdict next.Refused (check (ltb room 2) 14 0 ∷ []) (next.Is s)
+spanned room (next.Refused q) = next.Refused q
+
+-- 1 for a token, 0 where the cursor is done
+unfoldable pub stepCode : Next → ℕ
+stepCode (next.Is (Serves t)) = 1
+stepCode (next.Is (Done p)) = 0
+stepCode (next.Refused q) = refusalCode q
+
+-- a token's start and end, or where the cursor stands, at the front of the span; a refusal alters nothing
+unfoldable pub stepSpan : Next → List ℕ → List ℕ
+stepSpan (next.Is (Serves t)) d = over (t .start ∷ t .end ∷ []) d
+stepSpan (next.Is (Done p)) d = over (p ∷ []) d
+stepSpan (next.Refused q) d = d
+
+-- a step's answer as the number a, and the span after it
+pub record Tells (n : Next) (span : List ℕ) (a : ℕ) (span′ : List ℕ) : Type 0 where
+  pub answer-is : a ≡ stepCode (spanned (length span) n)
+  pub span-is : span′ ≡ stepSpan (spanned (length span) n) span
+
+unfoldable pub NearNext : Next → Type 0
+NearNext (next.Is s) = Unit {0}
+NearNext (next.Refused q) = Near q
+
+abbrev pub HostSteps : Record → Buffers → ℕ → List ℕ → ℕ → List ℕ → Type 0
+HostSteps r d p span a span′ = Tells (nextOf r d p) span a span′

@@ -1,0 +1,308 @@
+// The host's calls besides the conversion: a line read into lent buffers, a sheet written, a step of the token cursor. Each answers one number; a
+// refusal is 2^63 plus 256 times its place plus its number.
+use reader::Form;
+use sentence::Refusal;
+use sheet::Answer;
+use sheet::Number;
+use sheet::Record;
+use tokens::Next;
+use tokens::Step;
+ghost use mathlib.Core.Path.{_≡_};
+ghost use mathlib.Core.Bool.{false};
+ghost use Prim.Native.Nat.{_≤_};
+ghost use lib.ListN.{length};
+ghost use Rattle.laws.specs.Put.{over};
+ghost use Rattle.sheet.specs.Layout.{buffers};
+ghost use Rattle.reader.specs.Flags as flags;
+ghost use Rattle.tokens.specs.declared.Next.the-variants.{Is};
+ghost use Rattle.passage.specs.Between.{formOf};
+ghost use Rattle.write.specs.Answers.{Written};
+ghost use Rattle.exports.specs.Exports.{refusalCode, Near, noReader, numbersOf, ReadTold, NearAnswer, HostReads, recordIn, noWriter, numberCode, NearNumber, HostWrites, Tells, NearNext, HostSteps};
+
+// A refusal as one number.
+fn code(r: Refusal) -> u64
+    requires { ⌜ Near r ⌝ }
+    ensures { λ a. ⌜ a ≡ refusalCode r ⌝ }
+{
+    9223372036854775808 + 256 * r.place as u64 + r.number as u64
+}
+
+// Whether a number is no form to read.
+fn no_reader(form: u32) -> bool
+    ensures { λ r. ⌜ r ≡ noReader form ⌝ }
+{
+    2 < form
+}
+
+// Whether a number is no form to write.
+fn no_writer(form: u32) -> bool
+    ensures { λ r. ⌜ r ≡ noWriter form ⌝ }
+{
+    (form == 0) | (2 < form)
+}
+
+// The form of a number.
+fn form_of(form: u32) -> Form
+    ensures { λ r. ⌜ flags.formOf r ≡ formOf form ⌝ }
+{
+    if form == 0 {
+        return Form::Raw;
+    }
+    if form == 1 {
+        return Form::Tokenized;
+    }
+    Form::Partial
+}
+
+// Stores what a sentence counts in the first five numbers.
+fn store(r: Record, numbers: &mut [u64])
+    requires { ⌜ 5 ≤ length (now numbers) ⌝ }
+    ensures { λ _. ⌜ now (numbers .exit) ≡ over (numbersOf r) (now (numbers .entry)) ⌝ }
+{
+    numbers[0] = r.n as u64;
+    numbers[1] = r.b as u64;
+    numbers[2] = r.columns as u64;
+    numbers[3] = r.k as u64;
+    numbers[4] = r.g as u64;
+}
+
+// Tells what a reader answered: 0 and the numbers of the sentence, or the refusal.
+fn tell_read(answer: Answer, numbers: &mut [u64]) -> u64
+    requires { ⌜ (5 ≤ length (now numbers)) × NearAnswer answer ⌝ }
+    ensures { λ a. ⌜ ReadTold answer (now (numbers .entry)) a (now (numbers .exit)) ⌝ }
+{
+    match answer {
+        Answer::Refused(q) => code(q),
+        Answer::Sentence(r) => {
+            store(r, numbers);
+            0
+        }
+    }
+}
+
+// Reads a line in a form (0 raw, 1 tokenized, 2 partial) into lent buffers: 0, and N, B, columns, K and G in the first five numbers. 16 is the first
+// refusal, then 14 for fewer numbers than five, both at 0; then the reader's.
+#[no_mangle]
+pub extern "C" fn ighdelmur_read(
+    form: u32,
+    line: &[u8],
+    text: &mut [u8],
+    types: &mut [u8],
+    boundaries: &mut [u8],
+    char_pos: &mut [u16],
+    byte_pos: &mut [u16],
+    row_ends: &mut [u16],
+    tag_ends: &mut [u16],
+    tag_bytes: &mut [u8],
+    numbers: &mut [u64],
+) -> u64
+    ensures { λ a. ⌜ HostReads form (now (line .entry)) (buffers (now (text .entry)) (now (types .entry)) (now (boundaries .entry)) (now («char_pos» .entry)) (now («byte_pos» .entry)) (now («row_ends» .entry)) (now («tag_ends» .entry)) (now («tag_bytes» .entry))) (now (numbers .entry)) a (buffers (now (text .exit)) (now (types .exit)) (now (boundaries .exit)) (now («char_pos» .exit)) (now («byte_pos» .exit)) (now («row_ends» .exit)) (now («tag_ends» .exit)) (now («tag_bytes» .exit))) (now (numbers .exit)) ⌝ }
+{
+    if no_reader(form) {
+        return code(Refusal {
+            number: 16,
+            place: 0,
+        });
+    }
+    if numbers.len() < 5 {
+        return code(Refusal {
+            number: 14,
+            place: 0,
+        });
+    }
+    let answer = load::load(
+        form_of(form),
+        line,
+        text,
+        types,
+        boundaries,
+        char_pos,
+        byte_pos,
+        row_ends,
+        tag_ends,
+        tag_bytes,
+    );
+    tell_read(answer, numbers)
+}
+
+// Writes a sheet in the form of a number that is 1 or 2.
+fn write_as(
+    form: u32,
+    r: Record,
+    text: &[u8],
+    types: &[u8],
+    boundaries: &[u8],
+    char_pos: &[u16],
+    byte_pos: &[u16],
+    row_ends: &[u16],
+    tag_ends: &[u16],
+    tag_bytes: &[u8],
+    out: &mut [u8],
+) -> Number
+    requires { ⌜ noWriter form ≡ false ⌝ }
+    ensures { λ a. ⌜ Written (formOf form) r (buffers (now (text .entry)) (now (types .entry)) (now (boundaries .entry)) (now («char_pos» .entry)) (now («byte_pos» .entry)) (now («row_ends» .entry)) (now («tag_ends» .entry)) (now («tag_bytes» .entry))) (now (out .entry)) a (now (out .exit)) ⌝ }
+{
+    if form == 1 {
+        return write::write_tokenized_text(
+            r,
+            text,
+            types,
+            boundaries,
+            char_pos,
+            byte_pos,
+            row_ends,
+            tag_ends,
+            tag_bytes,
+            out,
+        );
+    }
+    write::write_partial_annotation_text(
+        r,
+        text,
+        types,
+        boundaries,
+        char_pos,
+        byte_pos,
+        row_ends,
+        tag_ends,
+        tag_bytes,
+        out,
+    )
+}
+
+// Tells what a writer answered: the length, or the refusal.
+fn tell_number(answer: Number) -> u64
+    requires { ⌜ NearNumber answer ⌝ }
+    ensures { λ a. ⌜ a ≡ numberCode answer ⌝ }
+{
+    match answer {
+        Number::Is(n) => n as u64,
+        Number::Refused(q) => code(q),
+    }
+}
+
+// Writes a sheet in a form (1 tokenized, 2 partial) at the front of the output: the line's length. 16 at 0 is the first refusal; then the writer's.
+#[no_mangle]
+pub extern "C" fn ighdelmur_write(
+    form: u32,
+    n: usize,
+    b: usize,
+    columns: usize,
+    k: usize,
+    g: usize,
+    text: &[u8],
+    types: &[u8],
+    boundaries: &[u8],
+    char_pos: &[u16],
+    byte_pos: &[u16],
+    row_ends: &[u16],
+    tag_ends: &[u16],
+    tag_bytes: &[u8],
+    out: &mut [u8],
+) -> u64
+    ensures { λ a. ⌜ HostWrites form (recordIn n b columns k g) (buffers (now (text .entry)) (now (types .entry)) (now (boundaries .entry)) (now («char_pos» .entry)) (now («byte_pos» .entry)) (now («row_ends» .entry)) (now («tag_ends» .entry)) (now («tag_bytes» .entry))) (now (out .entry)) a (now (out .exit)) ⌝ }
+{
+    if no_writer(form) {
+        return code(Refusal {
+            number: 16,
+            place: 0,
+        });
+    }
+    let answer = write_as(
+        form,
+        Record {
+            n,
+            b,
+            columns,
+            k,
+            g,
+        },
+        text,
+        types,
+        boundaries,
+        char_pos,
+        byte_pos,
+        row_ends,
+        tag_ends,
+        tag_bytes,
+        out,
+    );
+    tell_number(answer)
+}
+
+// Tells a step: 1 and the token's start and end, or 0 and where the cursor stands; 14 for a span of fewer numbers than two.
+fn tell_step(step: Step, span: &mut [u64]) -> u64
+    ensures { λ a. ⌜ Tells (Is step) (now (span .entry)) a (now (span .exit)) ⌝ }
+{
+    if span.len() < 2 {
+        return code(Refusal {
+            number: 14,
+            place: 0,
+        });
+    }
+    match step {
+        Step::Serves(t) => {
+            span[0] = t.start as u64;
+            span[1] = t.end as u64;
+            1
+        }
+        Step::Done { at } => {
+            span[0] = at as u64;
+            0
+        }
+    }
+}
+
+// The same of a step on a sheet, which may be refused.
+fn tell_next(next: Next, span: &mut [u64]) -> u64
+    requires { ⌜ NearNext next ⌝ }
+    ensures { λ a. ⌜ Tells next (now (span .entry)) a (now (span .exit)) ⌝ }
+{
+    match next {
+        Next::Is(step) => tell_step(step, span),
+        Next::Refused(q) => code(q),
+    }
+}
+
+// The step of the token cursor at `p`: 1 and the token's start and end at the front of the span, or 0 and where the cursor stands. 13 is the first
+// refusal, then 14 for a span of fewer numbers than two, both at 0.
+#[no_mangle]
+pub extern "C" fn ighdelmur_next_token(
+    n: usize,
+    b: usize,
+    columns: usize,
+    k: usize,
+    g: usize,
+    text: &[u8],
+    types: &[u8],
+    boundaries: &[u8],
+    char_pos: &[u16],
+    byte_pos: &[u16],
+    row_ends: &[u16],
+    tag_ends: &[u16],
+    tag_bytes: &[u8],
+    p: usize,
+    span: &mut [u64],
+) -> u64
+    ensures { λ a. ⌜ HostSteps (recordIn n b columns k g) (buffers (now (text .entry)) (now (types .entry)) (now (boundaries .entry)) (now («char_pos» .entry)) (now («byte_pos» .entry)) (now («row_ends» .entry)) (now («tag_ends» .entry)) (now («tag_bytes» .entry))) p (now (span .entry)) a (now (span .exit)) ⌝ }
+{
+    let next = tokens::next_token(
+        Record {
+            n,
+            b,
+            columns,
+            k,
+            g,
+        },
+        text,
+        types,
+        boundaries,
+        char_pos,
+        byte_pos,
+        row_ends,
+        tag_ends,
+        tag_bytes,
+        p,
+    );
+    tell_next(next, span)
+}
