@@ -63,14 +63,16 @@ pub record ReadTold (r : Answer) (ns : List ℕ) (a : ℕ) (ns′ : List ℕ) : 
   pub answer-is : a ≡ readCode r
   pub numbers-are : ns′ ≡ readNumbers r ns
 
+-- where it is a refusal, its place is small
 unfoldable pub NearAnswer : Answer → Type 0
 NearAnswer (answer.Sentence r) = Unit {0}
 NearAnswer (answer.Refused q) = Near q
 
--- a line of a form, with room for so many numbers
+-- the answer for a line of a form, with room for so many numbers
 unfoldable pub hostAnswer : ℕ → List ℕ → Buffers → ℕ → Answer
 hostAnswer f x d room = verdict answer.Refused (readFirst f room) (readAnswer (read (formOf f) x) d)
 
+-- the buffers after it, which a refusal leaves
 unfoldable pub hostLeaves : ℕ → List ℕ → Buffers → ℕ → Buffers
 hostLeaves f x d room = verdict (λ (q : Refusal). d) (readFirst f room) (readLeaves (read (formOf f) x) d)
 
@@ -98,6 +100,7 @@ unfoldable pub numberCode : Number → ℕ
 numberCode (number.Is n) = n
 numberCode (number.Refused q) = refusalCode q
 
+-- where it is a refusal, its place is small
 unfoldable pub NearNumber : Number → Type 0
 NearNumber (number.Is n) = Unit {0}
 NearNumber (number.Refused q) = Near q
@@ -130,9 +133,11 @@ pub record Tells (n : Next) (span : List ℕ) (a : ℕ) (span′ : List ℕ) : T
   pub answer-is : a ≡ stepCode (spanned (length span) n)
   pub span-is : span′ ≡ stepSpan (spanned (length span) n) span
 
+-- where it is a refusal, its place is small
 unfoldable pub NearNext : Next → Type 0
 NearNext (next.Is s) = Unit {0}
 NearNext (next.Refused q) = Near q
 
+-- the step at p on a sheet
 abbrev pub HostSteps : Record → Buffers → ℕ → List ℕ → ℕ → List ℕ → Type 0
 HostSteps r d p span a span′ = Tells (nextOf r d p) span a span′
