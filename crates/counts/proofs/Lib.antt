@@ -1,3 +1,4 @@
+pub mod Acts
 pub mod Bounds
 pub mod Rests
 pub mod Totals

@@ -2,6 +2,7 @@
 use crate::Counts;
 use crate::Open;
 use reader::Act;
+use reader::Stepped;
 use sheet::Record;
 ghost use mathlib.Core.Path.{_≡_};
 ghost use Prim.Native.Nat.{_≤_, max};
@@ -95,15 +96,16 @@ fn of_tag(k: Counts, len: usize) -> Counts
 }
 
 // An act whose character has this many bytes.
-pub fn tally(k: Counts, act: Act, len: usize) -> Counts
+pub fn tally(k: Counts, s: Stepped, len: usize) -> Counts
     requires { ⌜ Small k 4096 × (len ≤ 4) ⌝ }
-    ensures { λ r. ⌜ r ≡ tallyBy len (actOf act) k ⌝ }
+    ensures { λ r. ⌜ r ≡ tallyBy len (actOf s) k ⌝ }
 {
+    let act = s.act;
     match act {
         Act::Skip => k,
-        Act::Letter { mark: _, c: _ } => letter(k, len),
+        Act::Letter => letter(k, len),
         Act::Opens => opens(k),
-        Act::OfTag(_) => of_tag(k, len),
+        Act::OfTag => of_tag(k, len),
     }
 }
 

@@ -7,23 +7,22 @@ use native.Mathlib.Omega.{arith}
 use borrow.Author.Tests.{ltb-false}
 use lib.Dec.{eqb, ltb}
 use lib.ListN.{length, take, drop, drop-of-length-le}
-use Rattle.laws.specs.If.{if_then_else_, if-both}
+use Rattle.laws.specs.If.{if_then_else_}
 use Rattle.utf8.specs.Utf8.{encode, width, size, decodeAt, walk, chars, validPrefix, values, scalars, isChar}
 use Rattle.utf8.specs.declared.Decoded.{Decoded}
 use Rattle.utf8.specs.declared.Decoded.the-variants.{Char, Bad, End}
 use Rattle.utf8.proofs.Codec.{encode-decode, valid-within}
 use Rattle.utf8.proofs.Laws.{Passed, len-ok, width-at, char-within, chars-char, passed-char, passed-bad, end-past, bad-inside}
 use Rattle.sentence.specs.Sentence.{Sentence}
-use Rattle.sentence.specs.Reading.{Form, Place, at, start, behind, inTag, gap, escaped, Act, skip, letter, opens, ofTag, go, stop, kind, advance, Run, whole, stopped, ending, finish, push, follow, run, gather, Result, sentence, refused, built, placed, read}
+use Rattle.sentence.specs.Reading.{Form, Place, at, start, behind, inTag, gap, escaped, Act, skip, letter, opens, ofTag, Step, go, stop, kind, advance, Run, whole, stopped, ending, finish, push, follow, run, gather, Result, sentence, refused, built, placed, read}
 use Rattle.sentence.specs.Reading as reading
-use Rattle.sentence.proofs.Shape.{ActOf, StepOf, step-of}
+use Rattle.sentence.proofs.Shape.{ActOf, StepOf}
 use Rattle.sheet.specs.Layout.{Buffers, buffers, recordOf, roomFor, laid}
-use Rattle.reader.specs.declared.Act as acts
 use Rattle.reader.specs.declared.State.{State}
 use Rattle.reader.specs.declared.Stepped.{Stepped}
-use Rattle.reader.specs.declared.Stepped.the-variants.{Go, Refuse}
-use Rattle.reader.specs.Flags.{stateOf, flags, actOf, stepped, stepOf}
-use Rattle.reader.proofs.Enums.{state-back, step-is}
+use Rattle.reader.specs.Flags.{stateOf, flags, actOf, stepped}
+use Rattle.reader.proofs.Enums.{state-back}
+use Rattle.reader.proofs.Advances.{advance-of, Goes, advanced}
 use Rattle.counts.specs.declared.Counts.{Counts}
 use Rattle.counts.specs.Counts.{Small, opened, nothing, bytes, tallyBy, tally}
 use Rattle.counts.proofs.Bounds.{small-more, tally-small}
@@ -115,10 +114,6 @@ pub record Long (d₀ d : Buffers) : Type 0 where
   pub tag-bytes-long : length (d .tag-bytes-buf) ≡ length (d₀ .tag-bytes-buf)
 
 -- ---- a character
-advance-of : (f : Form) (σ : State) (c : ℕ) → StepOf c (advance f (stateOf σ) c)
-unfolding advance
-advance-of f σ c = if-both (StepOf c) (eqb c 0) _ _ tt (step-of f (stateOf σ) (kind f c) c)
-
 tally-width : (a : Act) (c : ℕ) (k : Counts) → ActOf c a → tallyBy (width c) a k ≡ tally a k
 unfolding tally tallyBy bytes
 tally-width skip c k e = refl
@@ -164,45 +159,51 @@ module _ {f : Form} {x : List ℕ} {σ : State} {k : Counts} {p : ℕ} {d₀ d :
   pub lay-span : {v n : ℕ} → decodeAt x p ≡ Char v n → Span x p n
   lay-span {v} {n} q = record { some = len-ok x p v n q .0; few = len-ok x p v n q .1; fits = char-within x p v n (h .within) q; short = h .short }
 
-  module _ {v n : ℕ} (q : decodeAt x p ≡ Char v n) {g : Stepped} (g₁ : g ≡ stepped (advance f (stateOf σ) v)) where
+  module _ {v n : ℕ} (q : decodeAt x p ≡ Char v n) where
     -- it is not refused
-    pub lay-never : {e : ℕ} → g ≡ Refuse e → ⊥
-    unfolding run follow stepOf
-    lay-never {e} g₂ =
-        let w : advance f (stateOf σ) v ≡ stop e = step-is _ g (Refuse e) g₁ g₂ in
-        let r : stopped e (size (v ∷ scalars (drop (p + n) x))) ≡ whole (h .left) = rw (left-char x p v n q, w) at (h .runs) in
-        let z : _≡_ {A = ℕ} 0 1 = cc in
-        omega arith
+    lay-goes : Goes (advance f (stateOf σ) v)
+    unfolding run follow
+    lay-goes = on (advance f (stateOf σ) v) refl
+      where
+        on : (s : Step) → advance f (stateOf σ) v ≡ s → Goes s
+        on (go τ a) w = tt
+        on (stop e) w =
+            let r : stopped e (size (v ∷ scalars (drop (p + n) x))) ≡ whole (h .left) = rw (left-char x p v n q, w) at (h .runs) in
+            let z : _≡_ {A = ℕ} 0 1 = cc in
+            omega arith
 
-    module _ {t : State} {a : acts.Act} (g₂ : g ≡ Go t a) where
-      steps : advance f (stateOf σ) v ≡ go (stateOf t) (actOf a)
-      unfolding stepOf
-      steps = step-is _ g (Go t a) g₁ g₂
+    pub lay-some : v ≡ 0 → ⊥
+    unfolding advance if_then_else_
+    lay-some z = rw z at lay-goes
 
-      act-of : ActOf v (actOf a)
-      act-of = subst (StepOf v) steps (advance-of f σ v)
+    module _ {g : Stepped} (g₁ : g ≡ stepped v (advance f (stateOf σ) v)) where
+      steps : advance f (stateOf σ) v ≡ go (stateOf (g .state)) (actOf g)
+      steps = advanced f (stateOf σ) v g g₁ lay-goes
 
-      goes : Went (actOf a) (run f (stateOf t) (scalars (drop (p + n) x))) (h .left)
+      act-of : ActOf v (actOf g)
+      act-of = subst (StepOf v) steps (advance-of f (stateOf σ) v)
+
+      goes : Went (actOf g) (run f (stateOf (g .state)) (scalars (drop (p + n) x))) (h .left)
       unfolding run follow
-      goes = went (actOf a) _ (h .left) (rw (left-char x p v n q, steps) at (h .runs))
+      goes = went (actOf g) _ (h .left) (rw (left-char x p v n q, steps) at (h .runs))
 
-      parts : Goings (actOf a ∷ goes .rest) k (h .s) d₀ d
+      parts : Goings (actOf g ∷ goes .rest) k (h .s) d₀ d
       parts = subst (λ (l : List Act). Goings l k (h .s) d₀ d) (goes .is) (h .goings)
 
-      pub lay-turning : Turning (actOf a) k x p n d
+      pub lay-turning : Turning (actOf g) k x p n d
       unfolding decodeAt
       lay-turning = record {
         small = lay-small;
         some = len-ok x p v n q .0;
         few = len-ok x p v n q .1;
         within = char-within x p v n (h .within) q;
-        bytes = act-bytes (actOf a) v (take n (drop p x)) act-of (encode-decode (drop p x) v n q .bytes);
-        room = goings-room (actOf a) (goes .rest) k (h .s) d₀ d parts;
+        bytes = act-bytes (actOf g) v (take n (drop p x)) act-of (encode-decode (drop p x) v n q .bytes);
+        room = goings-room (actOf g) (goes .rest) k (h .s) d₀ d parts;
       }
 
-      pub lay-go : {k′ : Counts} {e : Buffers} → Stored (λ (o : Part). o .emit (actOf a) k) k d e → k′ ≡ tallyBy n (actOf a) k → Laying f x t k′ (p + n) d₀ e
+      pub lay-go : {k′ : Counts} {e : Buffers} → Stored (λ (o : Part). o .emit (actOf g) k) k d e → k′ ≡ tallyBy n (actOf g) k → Laying f x (g .state) k′ (p + n) d₀ e
       lay-go {k′} {e} w i =
-          let j : k′ ≡ tally (actOf a) k = i ∙ rw (width-at x p v n q) (tally-width (actOf a) v k act-of) in
+          let j : k′ ≡ tally (actOf g) k = i ∙ rw (width-at x p v n q) (tally-width (actOf g) v k act-of) in
           record {
             s = h .s;
             left = goes .rest;
@@ -212,9 +213,9 @@ module _ {f : Form} {x : List ℕ} {σ : State} {k : Counts} {p : ℕ} {d₀ d :
             valid = h .valid;
             within = char-within x p v n (h .within) q;
             passed = passed-char x p v n _ (sym q) refl (h .passed);
-            small = rw i (tally-small n p (actOf a) k (omega (arith, len-ok x p v n q)) (h .small));
+            small = rw i (tally-small n p (actOf g) k (omega (arith, len-ok x p v n q)) (h .small));
             runs = goes .runs;
-            goings = rw j (goings-turn (actOf a) (goes .rest) k (h .s) d₀ d parts e w);
+            goings = rw j (goings-turn (actOf g) (goes .rest) k (h .s) d₀ d parts e w);
           }
 
   -- ---- the line's end

@@ -2,7 +2,6 @@
 use counts::Counts;
 use reader::Form;
 use reader::State;
-use reader::Stepped;
 use types::blocks::Tables;
 ghost use Rattle.sentence.specs.Reading.{read};
 ghost use Rattle.sheet.specs.Layout.{buffers};
@@ -32,33 +31,27 @@ pub fn fill(
     while at < line.len() {
         let found = utf8::given::char_at(line, at);
         let len = found.len;
-        match state.step(form, found.value) {
-            Stepped::Go { state: next, act } => {
-                stores::given::turn(
-                    act,
-                    counts,
-                    line,
-                    at,
-                    len,
-                    &tables.index,
-                    &tables.blocks,
-                    text,
-                    types,
-                    boundaries,
-                    char_pos,
-                    byte_pos,
-                    row_ends,
-                    tag_ends,
-                    tag_bytes,
-                );
-                state = next;
-                counts = counts::given::tally(counts, act, len);
-                at += len;
-            }
-            Stepped::Refuse(_) => {
-                return;
-            }
-        }
+        let stepped = state.follow(form, found.value);
+        stores::given::turn(
+            stepped,
+            counts,
+            line,
+            at,
+            len,
+            &tables.index,
+            &tables.blocks,
+            text,
+            types,
+            boundaries,
+            char_pos,
+            byte_pos,
+            row_ends,
+            tag_ends,
+            tag_bytes,
+        );
+        state = stepped.state;
+        counts = counts::given::tally(counts, stepped, len);
+        at += len;
     }
     stores::given::finish(counts, char_pos, byte_pos, row_ends, tag_ends);
 }

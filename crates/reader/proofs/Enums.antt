@@ -5,14 +5,12 @@ use mathlib.Core.Bool.{Bool, true, false}
 use Rattle.laws.specs.If.{if_then_else_}
 use Rattle.sentence.specs.Sentence as sentence
 use Rattle.sentence.specs.Reading as reading
+use Rattle.sentence.proofs.Shape.{ActOf}
 use Rattle.reader.specs.declared.Mark.{Mark}
 use Rattle.reader.specs.declared.Mark.the-variants.{None, Word, Unknown}
 use Rattle.reader.specs.declared.Kind.{Kind}
-use Rattle.reader.specs.declared.Act.{Act}
 use Rattle.reader.specs.declared.State.{State}
-use Rattle.reader.specs.declared.Stepped.{Stepped}
-use Rattle.reader.specs.declared.Stepped.the-variants.{Go, Refuse}
-use Rattle.reader.specs.Flags.{markOf, markIn, kindIn, kindOf, place, placeOf, stateOf, flagsAt, flags, actIn, actOf, stepped, stepOf}
+use Rattle.reader.specs.Flags.{markOf, markIn, kindIn, kindOf, place, placeOf, stateOf, flagsAt, flags, actIn, beforeIn, actBy}
 
 pub mark-back : (m : Mark) → markIn (markOf m) ≡ m
 unfolding markIn markOf
@@ -37,12 +35,12 @@ kind-back reading.plain = refl
 pub kind-is : (k : reading.Kind) (r t : Kind) → r ≡ kindIn k → r ≡ t → k ≡ kindOf t
 kind-is k r t p q = sym (kind-back k) ∙ ap kindOf (sym p ∙ q)
 
-act-back : (a : reading.Act) → actOf (actIn a) ≡ a
-unfolding actIn actOf
-act-back reading.skip = refl
-act-back (reading.letter m c) = rw mark-is
-act-back reading.opens = refl
-act-back (reading.ofTag c) = refl
+pub act-back : (c : ℕ) (a : reading.Act) → ActOf c a → actBy (actIn a) (beforeIn a) c ≡ a
+unfolding actIn beforeIn actBy
+act-back c reading.skip e = refl
+act-back c (reading.letter m d) e = rw (mark-is, e)
+act-back c reading.opens e = refl
+act-back c (reading.ofTag d) e = rw e
 
 flags-back : (e : Bool) (p : reading.Place) → stateOf (flagsAt e p) ≡ (if e then reading.escaped p else reading.at p)
 unfolding flagsAt stateOf placeOf place
@@ -56,12 +54,3 @@ pub state-back : (σ : reading.State) → stateOf (flags σ) ≡ σ
 unfolding flags if_then_else_
 state-back (reading.at p) = flags-back false p
 state-back (reading.escaped p) = flags-back true p
-
-step-back : (s : reading.Step) → stepOf (stepped s) ≡ s
-unfolding stepped stepOf
-step-back (reading.go σ a) = rw (state-back, act-back)
-step-back (reading.stop e) = refl
-
--- the step of a result that is told twice
-pub step-is : (s : reading.Step) (r t : Stepped) → r ≡ stepped s → r ≡ t → s ≡ stepOf t
-step-is s r t p q = sym (step-back s) ∙ ap stepOf (sym p ∙ q)

@@ -1,3 +1,4 @@
 pub mod Enums
 pub mod Places
 pub mod Steps
+pub mod Advances

@@ -10,9 +10,11 @@ use Rattle.sentence.specs.Sentence as sentence
 use Rattle.sentence.specs.Reading.{Form, raw, tokenized, partial, Kind, mark, slash, back, plain, Place, start, behind, inTag, gap, at, escaped, skip, opens, go, stop, kind, ordinary, inside, opening, step, advance, whole, ending, finish}
 use Rattle.reader.specs.declared.State.{State}
 use Rattle.reader.specs.declared.Mark.{Mark}
+use Rattle.reader.specs.declared.Mark.the-variants.{None}
+use Rattle.reader.specs.declared.Act.the-variants.{Skip}
 use Rattle.reader.specs.declared.Kind as kinds
 use Rattle.reader.specs.declared.Stepped.{Stepped}
-use Rattle.reader.specs.Flags.{markOf, kindIn, kindOf, placeOf, stateOf, stepped, awaits, literal}
+use Rattle.reader.specs.Flags.{markOf, kindIn, kindOf, placeOf, stateOf, flags, actIn, beforeIn, goes, stepped, awaits, literal}
 use Rattle.reader.proofs.Enums.{kind-is}
 
 -- ---- no character is awaited
@@ -55,12 +57,17 @@ far-slash (gap m) e = refl
 far-slash behind e = cc
 far-slash inTag e = cc
 
-pub far-back : (p : Place) → step tokenized (at p) back 0 ≡ go (escaped p) skip
+far-back : (p : Place) → step tokenized (at p) back 0 ≡ go (escaped p) skip
 unfolding step inside opening
 far-back start = refl
 far-back (gap m) = refl
 far-back behind = refl
 far-back inTag = refl
+
+-- what a backslash hands back
+pub handed-back : (p : Place) (c : ℕ) (t : State) → t ≡ flags (escaped p) → goes t Skip None c ≡ stepped c (step tokenized (at p) back 0)
+unfolding stepped actIn beforeIn
+handed-back p c t i = rw (i, far-back p)
 
 pub finish-place : (f : Form) (s : State) → finish f (stateOf s) ≡ ending f (placeOf s)
 unfolding finish stateOf if_then_else_
@@ -149,27 +156,27 @@ module _ (s : State) (f : Form) (c : ℕ) (z : c ≡ 0 → ⊥) where
 
 -- ---- what `step` hands back; the premises are as its places have them
 module _ (s : State) (f : Form) (c : ℕ) (r : Stepped) where
-  pub hands-escaped : (c ≡ 0 → ⊥) → s .escape ≡ true → r ≡ stepped (ordinary f (placeOf s) c) → r ≡ stepped (advance f (stateOf s) c)
-  hands-escaped z h e = e ∙ ap stepped (sym (advance-escaped s f c z h))
+  pub hands-escaped : (c ≡ 0 → ⊥) → s .escape ≡ true → r ≡ stepped c (ordinary f (placeOf s) c) → r ≡ stepped c (advance f (stateOf s) c)
+  hands-escaped z h e = e ∙ ap (stepped c) (sym (advance-escaped s f c z h))
 
   pub hands-literal : (l : Bool) → (c ≡ 0 → ⊥) → s .escape ≡ false → l ≡ literal f (placeOf s) → l ≡ true
-      → r ≡ stepped (ordinary f (placeOf s) c) → r ≡ stepped (advance f (stateOf s) c)
-  hands-literal l z h p q e = e ∙ ap stepped (sym (advance-literal s f c z h (sym p ∙ q)))
+      → r ≡ stepped c (ordinary f (placeOf s) c) → r ≡ stepped c (advance f (stateOf s) c)
+  hands-literal l z h p q e = e ∙ ap (stepped c) (sym (advance-literal s f c z h (sym p ∙ q)))
 
   pub hands-plain : (k : kinds.Kind) → (c ≡ 0 → ⊥) → s .escape ≡ false → k ≡ kindIn (kind f c) → k ≡ kinds.the-variants.Plain
-      → r ≡ stepped (ordinary f (placeOf s) c) → r ≡ stepped (advance f (stateOf s) c)
+      → r ≡ stepped c (ordinary f (placeOf s) c) → r ≡ stepped c (advance f (stateOf s) c)
   unfolding kindOf
-  hands-plain k z h p q e = e ∙ ap stepped (sym (advance-plain s f c z h (kind-is (kind f c) k _ p q)))
+  hands-plain k z h p q e = e ∙ ap (stepped c) (sym (advance-plain s f c z h (kind-is (kind f c) k _ p q)))
 
   module _ (l : Bool) (k : kinds.Kind) (z : c ≡ 0 → ⊥) (h : s .escape ≡ false) (n : l ≡ literal f (placeOf s)) (g : l ≡ false) (p : k ≡ kindIn (kind f c)) where
-    pub hands-mark : (m : Mark) → k ≡ kinds.the-variants.Mark m → r ≡ stepped (step tokenized (at (placeOf s)) (mark (markOf m)) 0) → r ≡ stepped (advance f (stateOf s) c)
+    pub hands-mark : (m : Mark) → k ≡ kinds.the-variants.Mark m → r ≡ stepped c (step tokenized (at (placeOf s)) (mark (markOf m)) 0) → r ≡ stepped c (advance f (stateOf s) c)
     unfolding kindOf
-    hands-mark m q e = e ∙ ap stepped (sym (advance-meant s f c z a-mark h (sym n ∙ g) (kind-is (kind f c) k _ p q)))
+    hands-mark m q e = e ∙ ap (stepped c) (sym (advance-meant s f c z a-mark h (sym n ∙ g) (kind-is (kind f c) k _ p q)))
 
-    pub hands-slash : k ≡ kinds.the-variants.Slash → r ≡ stepped (step tokenized (at (placeOf s)) slash 0) → r ≡ stepped (advance f (stateOf s) c)
+    pub hands-slash : k ≡ kinds.the-variants.Slash → r ≡ stepped c (step tokenized (at (placeOf s)) slash 0) → r ≡ stepped c (advance f (stateOf s) c)
     unfolding kindOf
-    hands-slash q e = e ∙ ap stepped (sym (advance-meant s f c z a-slash h (sym n ∙ g) (kind-is (kind f c) k _ p q)))
+    hands-slash q e = e ∙ ap (stepped c) (sym (advance-meant s f c z a-slash h (sym n ∙ g) (kind-is (kind f c) k _ p q)))
 
-    pub hands-back : k ≡ kinds.the-variants.Back → r ≡ stepped (step tokenized (at (placeOf s)) back 0) → r ≡ stepped (advance f (stateOf s) c)
+    pub hands-back : k ≡ kinds.the-variants.Back → r ≡ stepped c (step tokenized (at (placeOf s)) back 0) → r ≡ stepped c (advance f (stateOf s) c)
     unfolding kindOf
-    hands-back q e = e ∙ ap stepped (sym (advance-meant s f c z a-back h (sym n ∙ g) (kind-is (kind f c) k _ p q)))
+    hands-back q e = e ∙ ap (stepped c) (sym (advance-meant s f c z a-back h (sym n ∙ g) (kind-is (kind f c) k _ p q)))

@@ -15,7 +15,6 @@ use Rattle.reader.specs.declared.Act.{Act}
 use Rattle.reader.specs.declared.Act.the-variants.{Skip, Letter, Opens, OfTag}
 use Rattle.reader.specs.declared.State.{State}
 use Rattle.reader.specs.declared.Stepped.{Stepped}
-use Rattle.reader.specs.declared.Stepped.the-variants.{Go, Refuse}
 use Rattle.reader.specs.declared.Ended.{Ended}
 use Rattle.reader.specs.declared.Ended.the-variants.{Whole}
 use Rattle.reader.specs.declared.Ended as ends
@@ -71,26 +70,37 @@ unfoldable pub flags : reading.State → State
 flags (reading.at p) = flagsAt false p
 flags (reading.escaped p) = flagsAt true p
 
+-- what an act does, and the boundary before it
 unfoldable pub actIn : reading.Act → Act
 actIn reading.skip = Skip
-actIn (reading.letter m c) = Letter (markIn m) c
+actIn (reading.letter m c) = Letter
 actIn reading.opens = Opens
-actIn (reading.ofTag c) = OfTag c
+actIn (reading.ofTag c) = OfTag
 
-unfoldable pub actOf : Act → reading.Act
-actOf Skip = reading.skip
-actOf (Letter m c) = reading.letter (markOf m) c
-actOf Opens = reading.opens
-actOf (OfTag c) = reading.ofTag c
+unfoldable pub beforeIn : reading.Act → Mark
+beforeIn reading.skip = None
+beforeIn (reading.letter m c) = markIn m
+beforeIn reading.opens = None
+beforeIn (reading.ofTag c) = None
 
--- a step, as the code hands it back
-unfoldable pub stepped : reading.Step → Stepped
-stepped (reading.go σ a) = Go (flags σ) (actIn a)
-stepped (reading.stop e) = Refuse e
+-- the act of a step
+unfoldable pub actBy : Act → Mark → ℕ → reading.Act
+actBy Skip m c = reading.skip
+actBy Letter m c = reading.letter (markOf m) c
+actBy Opens m c = reading.opens
+actBy OfTag m c = reading.ofTag c
 
-unfoldable pub stepOf : Stepped → reading.Step
-stepOf (Go s a) = reading.go (stateOf s) (actOf a)
-stepOf (Refuse e) = reading.stop e
+unfoldable pub actOf : Stepped → reading.Act
+actOf s = actBy (s .act) (s .mark) (s .c)
+
+-- a step over the character c that goes on
+abbrev pub goes : State → Act → Mark → ℕ → Stepped
+goes s a m c = record { state = s; act = a; mark = m; number = 0; c = c }
+
+-- a step over the character c, as the code hands it back
+unfoldable pub stepped : ℕ → reading.Step → Stepped
+stepped c (reading.go σ a) = goes (flags σ) (actIn a) (beforeIn a) c
+stepped c (reading.stop e) = record { state = flags (reading.at reading.start); act = Skip; mark = None; number = e; c = c }
 
 -- the line's end, as the code hands it back
 unfoldable pub ended : reading.Run → Ended

@@ -2,8 +2,9 @@
 ghost use mathlib.Core.Path.{_≡_};
 ghost use mathlib.Core.Bool.{true, false};
 ghost use Rattle.sentence.specs.Sentence.{code};
-ghost use Rattle.sentence.specs.Reading.{tokenized, partial, mark, slash, back, at, escaped, start, behind, inTag, go, letter, kind, ordinary, step, advance, unfinished, finish};
-ghost use Rattle.reader.specs.Flags.{formOf, markOf, placeOf, stateOf, flags, kindIn, stepped, ended, awaits, literal};
+ghost use Rattle.sentence.specs.Reading.{tokenized, partial, mark, slash, back, at, escaped, start, behind, inTag, go, stop, letter, kind, ordinary, step, advance, unfinished, finish};
+ghost use Rattle.reader.specs.declared.Mark.the-variants.{None};
+ghost use Rattle.reader.specs.Flags.{formOf, markOf, placeOf, stateOf, flags, kindIn, goes, stepped, ended, awaits, literal};
 
 pub enum Form {
     Raw,
@@ -26,12 +27,12 @@ pub enum Kind {
     Plain,
 }
 
-// What a character does: nothing; it is text, with the boundary before it; it opens a tag; it is of the open tag.
+// What a character does: nothing; it is text; it opens a tag; it is of the open tag.
 pub enum Act {
     Skip,
-    Letter { mark: Mark, c: u32 },
+    Letter,
     Opens,
-    OfTag(u32),
+    OfTag,
 }
 
 // Where a reader stands: behind a backslash, in an open tag, behind a boundary (and which), and whether any text was read.
@@ -43,10 +44,13 @@ pub struct State {
     pub mark: Mark,
 }
 
-// What a step hands back.
-pub enum Stepped {
-    Go { state: State, act: Act },
-    Refuse(u8),
+// What a step hands back: the next state, what the character does, the boundary before it where it is text, the refusal's number or 0, and the character.
+pub struct Stepped {
+    pub state: State,
+    pub act: Act,
+    pub mark: Mark,
+    pub number: u8,
+    pub c: u32,
 }
 
 // What the line's end gives.
@@ -159,11 +163,24 @@ impl State {
         }
     }
 
+    // A refusal by its number.
+    fn refused(number: u8, c: u32) -> Stepped
+        ensures { λ r. ⌜ r ≡ stepped c (stop number) ⌝ }
+    {
+        Stepped {
+            state: State::new(),
+            act: Act::Skip,
+            mark: Mark::None,
+            number,
+            c,
+        }
+    }
+
     // A character of the text, with the boundary before it.
     fn letter(m: Mark, c: u32) -> Stepped
-        ensures { λ r. ⌜ r ≡ stepped (go (at behind) (letter (markOf m) c)) ⌝ }
+        ensures { λ r. ⌜ r ≡ stepped c (go (at behind) (letter (markOf m) c)) ⌝ }
     {
-        Stepped::Go {
+        Stepped {
             state: State {
                 escape: false,
                 tag_open: false,
@@ -171,15 +188,18 @@ impl State {
                 begun: true,
                 mark: Mark::None,
             },
-            act: Act::Letter { mark: m, c },
+            act: Act::Letter,
+            mark: m,
+            number: 0,
+            c,
         }
     }
 
     // The place in an open tag.
-    fn in_tag(act: Act) -> Stepped
-        ensures { λ r. ⌜ r ≡ Stepped.Go (flags (at inTag)) act ⌝ }
+    fn in_tag(act: Act, c: u32) -> Stepped
+        ensures { λ r. ⌜ r ≡ goes (flags (at inTag)) act None c ⌝ }
     {
-        Stepped::Go {
+        Stepped {
             state: State {
                 escape: false,
                 tag_open: true,
@@ -188,23 +208,26 @@ impl State {
                 mark: Mark::None,
             },
             act,
+            mark: Mark::None,
+            number: 0,
+            c,
         }
     }
 
     // An ordinary character behind another; the partial form has none.
     fn behind(form: Form, c: u32) -> Stepped
-        ensures { λ r. ⌜ r ≡ stepped (ordinary (formOf form) behind c) ⌝ }
+        ensures { λ r. ⌜ r ≡ stepped c (ordinary (formOf form) behind c) ⌝ }
     {
         match form {
             Form::Raw => State::letter(Mark::Unknown, c),
             Form::Tokenized => State::letter(Mark::None, c),
-            Form::Partial => Stepped::Refuse(9),
+            Form::Partial => State::refused(9, c),
         }
     }
 
     // An ordinary character: of the open tag, else text.
     fn ordinary(self, form: Form, c: u32) -> Stepped
-        ensures { λ r. ⌜ r ≡ stepped (ordinary (formOf form) (placeOf self) c) ⌝ }
+        ensures { λ r. ⌜ r ≡ stepped c (ordinary (formOf form) (placeOf self) c) ⌝ }
     {
         let m = self.mark;
         if !self.begun {
@@ -214,22 +237,22 @@ impl State {
             return State::letter(m, c);
         }
         if self.tag_open {
-            return State::in_tag(Act::OfTag(c));
+            return State::in_tag(Act::OfTag, c);
         }
         State::behind(form, c)
     }
 
     // A plain boundary: none is right where a token begins.
-    fn boundary(self, m: Mark) -> Stepped
-        ensures { λ r. ⌜ r ≡ stepped (step tokenized (at (placeOf self)) (mark (markOf m)) 0) ⌝ }
+    fn boundary(self, m: Mark, c: u32) -> Stepped
+        ensures { λ r. ⌜ r ≡ stepped c (step tokenized (at (placeOf self)) (mark (markOf m)) 0) ⌝ }
     {
         if !self.begun {
-            return Stepped::Refuse(5);
+            return State::refused(5, c);
         }
         if self.prev_space {
-            return Stepped::Refuse(6);
+            return State::refused(6, c);
         }
-        Stepped::Go {
+        Stepped {
             state: State {
                 escape: false,
                 tag_open: false,
@@ -238,17 +261,20 @@ impl State {
                 mark: m,
             },
             act: Act::Skip,
+            mark: Mark::None,
+            number: 0,
+            c,
         }
     }
 
     // A plain slash: none is right where a token begins.
-    fn slash(self) -> Stepped
-        ensures { λ r. ⌜ r ≡ stepped (step tokenized (at (placeOf self)) slash 0) ⌝ }
+    fn slash(self, c: u32) -> Stepped
+        ensures { λ r. ⌜ r ≡ stepped c (step tokenized (at (placeOf self)) slash 0) ⌝ }
     {
         if self.awaits() {
-            return Stepped::Refuse(7);
+            return State::refused(7, c);
         }
-        State::in_tag(Act::Opens)
+        State::in_tag(Act::Opens, c)
     }
 
     // The same place, behind a backslash.
@@ -277,21 +303,24 @@ impl State {
     }
 
     // A plain backslash: the next character is ordinary.
-    fn backslash(self) -> Stepped
-        ensures { λ r. ⌜ r ≡ stepped (step tokenized (at (placeOf self)) back 0) ⌝ }
+    fn backslash(self, c: u32) -> Stepped
+        ensures { λ r. ⌜ r ≡ stepped c (step tokenized (at (placeOf self)) back 0) ⌝ }
     {
-        Stepped::Go {
+        Stepped {
             state: self.escaped(),
             act: Act::Skip,
+            mark: Mark::None,
+            number: 0,
+            c,
         }
     }
 
     // One character.
     pub fn step(self, form: Form, c: u32) -> Stepped
-        ensures { λ r. ⌜ r ≡ stepped (advance (formOf form) (stateOf self) c) ⌝ }
+        ensures { λ r. ⌜ r ≡ stepped c (advance (formOf form) (stateOf self) c) ⌝ }
     {
         if c == 0 {
-            return Stepped::Refuse(4);
+            return State::refused(4, c);
         }
         if self.escape {
             return self.ordinary(form, c);
@@ -300,9 +329,28 @@ impl State {
             return self.ordinary(form, c);
         }
         match form.kind(c) {
-            Kind::Mark(m) => self.boundary(m),
-            Kind::Slash => self.slash(),
-            Kind::Back => self.backslash(),
+            Kind::Mark(m) => self.boundary(m, c),
+            Kind::Slash => self.slash(c),
+            Kind::Back => self.backslash(c),
+            Kind::Plain => self.ordinary(form, c),
+        }
+    }
+
+    // One character that is no NUL. A pass over a line that was read before takes this step, so that each pass has its own compiled into its loop.
+    pub fn follow(self, form: Form, c: u32) -> Stepped
+        requires { ⌜ (c ≡ 0 → ⊥) ⌝ }
+        ensures { λ r. ⌜ r ≡ stepped c (advance (formOf form) (stateOf self) c) ⌝ }
+    {
+        if self.escape {
+            return self.ordinary(form, c);
+        }
+        if self.is_literal(form) {
+            return self.ordinary(form, c);
+        }
+        match form.kind(c) {
+            Kind::Mark(m) => self.boundary(m, c),
+            Kind::Slash => self.slash(c),
+            Kind::Back => self.backslash(c),
             Kind::Plain => self.ordinary(form, c),
         }
     }

@@ -5,9 +5,9 @@ use mathlib.Core.Bool.{Bool, true, false}
 use mathlib.Core.List.{List, [], _∷_}
 use native.Mathlib.Omega.{arith}
 use borrow.Author.Tests.{lt-ltb, le-ltb, ltb-false}
-use lib.Dec.{eqb, ltb}
+use lib.Dec.{ltb}
 use lib.ListN.{length, drop}
-use Rattle.laws.specs.If.{if_then_else_, if-both, if-true, if-false, if-map}
+use Rattle.laws.specs.If.{if_then_else_, if-true, if-false, if-map}
 use Rattle.utf8.specs.Utf8.{width, size, decodeAt, chars, validPrefix, values, scalars}
 use Rattle.utf8.specs.declared.Decoded.{Decoded}
 use Rattle.utf8.specs.declared.Decoded.the-variants.{Char, Bad, End}
@@ -16,19 +16,18 @@ use Rattle.sentence.specs.Sentence.{Sentence}
 use Rattle.sentence.specs.Reading as reading
 use Rattle.sentence.specs.Reading.{Form, Place, at, escaped, start, behind, inTag, gap, Act, skip, letter, opens, ofTag, go, stop, kind, advance, Run, whole, stopped, ending, finish, push, follow, run, over, next, Parsed, parsed, gather, sentence, built, placed, read}
 use Rattle.sentence.specs.Refusals.{refusal}
-use Rattle.sentence.proofs.Shape.{ActOf, StepOf, step-of}
+use Rattle.sentence.proofs.Shape.{ActOf, StepOf}
 use Rattle.sheet.specs.Layout.{recordOf}
 use Rattle.sheet.specs.declared.Answer.{Answer}
 use Rattle.sheet.specs.declared.Answer.the-variants as answer
 use Rattle.sheet.specs.declared.Record.{Record}
-use Rattle.reader.specs.declared.Act as acts
 use Rattle.reader.specs.declared.State.{State}
 use Rattle.reader.specs.declared.Ended.{Ended}
 use Rattle.reader.specs.declared.Ended.the-variants as ends
 use Rattle.reader.specs.declared.Stepped.{Stepped}
-use Rattle.reader.specs.declared.Stepped.the-variants.{Go, Refuse}
-use Rattle.reader.specs.Flags.{stateOf, flags, actOf, stepped, stepOf, ended}
-use Rattle.reader.proofs.Enums.{state-back, step-is}
+use Rattle.reader.specs.Flags.{stateOf, flags, actOf, stepped, ended}
+use Rattle.reader.proofs.Enums.{state-back}
+use Rattle.reader.proofs.Advances.{advance-of, advanced-by-number, refused-by-number}
 use Rattle.counts.specs.declared.Counts.{Counts}
 use Rattle.counts.specs.Counts.{Small, opened, nothing, bytes, tallyBy, tally, tallies, counted}
 use Rattle.counts.proofs.Bounds.{small-more, tally-small}
@@ -42,10 +41,6 @@ told-push : (n : ℕ) (k : Counts) (a : Act) (r : Run) → told n k (push a r) �
 unfolding told push tallies
 told-push n k a (whole l) = refl
 told-push n k a (stopped e left) = refl
-
-advance-of : (f : Form) (s : State) (c : ℕ) → StepOf c (advance f (stateOf s) c)
-unfolding advance
-advance-of f s c = if-both (StepOf c) (eqb c 0) _ _ tt (step-of f (stateOf s) (kind f c) c)
 
 tally-width : (a : Act) (c : ℕ) (k : Counts) → ActOf c a → tallyBy (width c) a k ≡ tally a k
 unfolding tally tallyBy bytes
@@ -126,35 +121,35 @@ module _ {f : Form} {x : List ℕ} {s : State} {k : Counts} {p : ℕ} (h : Scann
       record { some = len-ok x p v n q .0; few = len-ok x p v n q .1; fits = char-within x p v n (h .within) q; short = h .short }
 
   -- a character that steps the reader
-  pub scan-go : {d : Decoded} {v n : ℕ} {g : Stepped} {t : State} {a : acts.Act} {k′ : Counts}
-      → d ≡ decodeAt x p → d ≡ Char v n → g ≡ stepped (advance f (stateOf s) v) → g ≡ Go t a → k′ ≡ tallyBy n (actOf a) k
-      → Scanning f x t k′ (p + n)
-  unfolding run follow stepOf
-  scan-go {d} {v} {n} {g} {t} {a} {k′} d₁ d₂ g₁ g₂ e =
+  pub scan-go : {d : Decoded} {v n : ℕ} {g : Stepped} {k′ : Counts}
+      → d ≡ decodeAt x p → d ≡ Char v n → g ≡ stepped v (advance f (stateOf s) v) → g .number ≤ 0 → k′ ≡ tallyBy n (actOf g) k
+      → Scanning f x (g .state) k′ (p + n)
+  unfolding run follow
+  scan-go {d} {v} {n} {g} {k′} d₁ d₂ g₁ g₂ e =
       let q : decodeAt x p ≡ Char v n = sym d₁ ∙ d₂ in
-      let w : advance f (stateOf s) v ≡ go (stateOf t) (actOf a) = step-is _ g (Go t a) g₁ g₂ in
-      let i : k′ ≡ tally (actOf a) k = e ∙ rw (width-at x p v n q) (tally-width (actOf a) v k (subst (StepOf v) w (advance-of f s v))) in
+      let w : advance f (stateOf s) v ≡ go (stateOf (g .state)) (actOf g) = advanced-by-number f (stateOf s) v g g₁ g₂ in
+      let i : k′ ≡ tally (actOf g) k = e ∙ rw (width-at x p v n q) (tally-width (actOf g) v k (subst (StepOf v) w (advance-of f (stateOf s) v))) in
       record {
         short = h .short;
         within = char-within x p v n (h .within) q;
-        small = rw e (tally-small n p (actOf a) k (omega (arith, len-ok x p v n q)) (h .small));
+        small = rw e (tally-small n p (actOf g) k (omega (arith, len-ok x p v n q)) (h .small));
         passed = passed-char x p v n d d₁ d₂ (h .passed);
-        same = rw i (sym (told-push (length x) k (actOf a) (run f (stateOf t) (scalars (drop (p + n) x)))) ∙ rw (left-char x p v n q, w) at (h .same));
+        same = rw i (sym (told-push (length x) k (actOf g) (run f (stateOf (g .state)) (scalars (drop (p + n) x)))) ∙ rw (left-char x p v n q, w) at (h .same));
       }
 
   -- a character that is refused
-  pub scan-stop : {d : Decoded} {v n e : ℕ} {g : Stepped} {r : Answer}
-      → d ≡ decodeAt x p → d ≡ Char v n → g ≡ stepped (advance f (stateOf s) v) → g ≡ Refuse e → r ≡ orInvalid x (answer.Refused (refusal e p))
+  pub scan-stop : {d : Decoded} {v n : ℕ} {g : Stepped} {r : Answer}
+      → d ≡ decodeAt x p → d ≡ Char v n → g ≡ stepped v (advance f (stateOf s) v) → 0 < g .number → r ≡ orInvalid x (answer.Refused (refusal (g .number) p))
       → r ≡ scanned (read f x)
-  unfolding run follow stepOf told
-  scan-stop {d} {v} {n} {e} {g} d₁ d₂ g₁ g₂ i =
+  unfolding run follow told
+  scan-stop {d} {v} {n} {g} d₁ d₂ g₁ g₂ i =
       let q : decodeAt x p ≡ Char v n = sym d₁ ∙ d₂ in
-      let w : advance f (stateOf s) v ≡ stop e = step-is _ g (Refuse e) g₁ g₂ in
+      let w : advance f (stateOf s) v ≡ stop (g .number) = refused-by-number f (stateOf s) v g g₁ g₂ in
       i
       ∙ or-same x _ _ (λ l.
       let place : p ≡ length x - size (v ∷ scalars (drop (p + n) x)) =
       omega (arith, ap size (left-char x p v n q), left-size x p (h .passed .same) (h .within) l, h .within) in
-      ap (λ (i : ℕ). answer.Refused (refusal e i)) place ∙ rw (left-char x p v n q, w) at (h .same))
+      ap (λ (i : ℕ). answer.Refused (refusal (g .number) i)) place ∙ rw (left-char x p v n q, w) at (h .same))
       ∙ sym (read-told f x (h .short))
 
   -- what is no character

@@ -3,7 +3,6 @@ use counts::Counts;
 use reader::Ended;
 use reader::Form;
 use reader::State;
-use reader::Stepped;
 use sentence::Refusal;
 use sheet::Answer;
 use utf8::Decoded;
@@ -60,16 +59,15 @@ pub fn scan(form: Form, line: &[u8]) -> Answer
     let mut at = 0;
     loop {
         match utf8::decode(line, at) {
-            Decoded::Char { value, len } => match state.step(form, value) {
-                Stepped::Go { state: next, act } => {
-                    state = next;
-                    counts = counts::given::tally(counts, act, len);
-                    at += len;
+            Decoded::Char { value, len } => {
+                let stepped = state.step(form, value);
+                if stepped.number > 0 {
+                    return stopped(line, at, stepped.number);
                 }
-                Stepped::Refuse(number) => {
-                    return stopped(line, at, number);
-                }
-            },
+                state = stepped.state;
+                counts = counts::given::tally(counts, stepped, len);
+                at += len;
+            }
             Decoded::Bad => {
                 return refuse(2, at);
             }

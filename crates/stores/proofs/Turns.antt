@@ -11,10 +11,10 @@ use Rattle.types.specs.TypeOf.{typeOf}
 use Rattle.sentence.specs.Sentence.{code}
 use Rattle.sentence.specs.Reading as reading
 use Rattle.sheet.specs.Layout.{Buffers, buffers}
-use Rattle.reader.specs.declared.Act.{Act}
 use Rattle.reader.specs.declared.Act.the-variants.{Skip, Letter, Opens, OfTag}
 use Rattle.reader.specs.declared.Mark.{Mark}
-use Rattle.reader.specs.Flags.{markOf, actOf}
+use Rattle.reader.specs.declared.Stepped.{Stepped}
+use Rattle.reader.specs.Flags.{markOf, actBy, actOf}
 use Rattle.counts.specs.declared.Counts.{Counts}
 use Rattle.counts.specs.Counts.{Small}
 use Rattle.stores.specs.Parts.{later, closes, passed, kept, onLetter, tagEnd, tagByte, rowEnd, Part, textPart, typesPart, boundariesPart, charPosPart, bytePosPart, rowEndsPart, tagEndsPart, tagBytesPart, Stored, Room, Bytes, Turning}
@@ -40,8 +40,8 @@ pub record LetterRoom (m : Mark) (c : ℕ) (k : Counts) (line : List ℕ) (at n 
 took : (x : List ℕ) (at n c : ℕ) → at + n ≤ length x → take n (drop at x) ≡ encode c → n ≡ width c
 took x at n c l e = omega (arith, ap length e, length-take n (drop at x), length-drop at x, length-encode c)
 
-letter-turning : (m : Mark) (c : ℕ) (k : Counts) (line : List ℕ) (at n : ℕ) (d : Buffers) → Turning (actOf (Letter m c)) k line at n d → LetterRoom m c k line at n d
-unfolding actOf textPart typesPart boundariesPart charPosPart bytePosPart rowEndsPart tagEndsPart onLetter tagEnd
+letter-turning : (m : Mark) (c : ℕ) (k : Counts) (line : List ℕ) (at n : ℕ) (d : Buffers) → Turning (actBy Letter m c) k line at n d → LetterRoom m c k line at n d
+unfolding actBy textPart typesPart boundariesPart charPosPart bytePosPart rowEndsPart tagEndsPart onLetter tagEnd
 letter-turning m c k line at n d t =
     let w = took line at n c (t .within) (t .bytes) in
     record {
@@ -60,18 +60,19 @@ letter-turning m c k line at n d t =
       tag-ends-room = t .room .tag-ends-room;
     }
 
-pub letter-room : (a : Act) (m : Mark) (c : ℕ) (k : Counts) (line : List ℕ) (at n : ℕ) (d : Buffers) → a ≡ Letter m c → Turning (actOf a) k line at n d → LetterRoom m c k line at n d
-letter-room a m c k line at n d e t = letter-turning m c k line at n d (rw e at t)
+pub letter-room : (s : Stepped) (k : Counts) (line : List ℕ) (at n : ℕ) (d : Buffers) → s .act ≡ Letter → Turning (actOf s) k line at n d → LetterRoom (s .mark) (s .c) k line at n d
+unfolding actOf
+letter-room s k line at n d e t = letter-turning (s .mark) (s .c) k line at n d (rw e at t)
 
 -- what it leaves
-pub letter-stored : {a : Act} {m : Mark} {c : ℕ} {k : Counts} {line : List ℕ} {at n r : ℕ} {t y o p b w e g t′ o′ b′ w′ e′ : List ℕ}
-    → a ≡ Letter m c → Turning (actOf a) k line at n (buffers t y o p b w e g)
-    → t′ ≡ put t (k .b) (take n (drop at line)) → r ≡ typeOf c → o′ ≡ put o (k .n - 1) (later (k .n) (code (markOf m)))
+pub letter-stored : (s : Stepped) {k : Counts} {line : List ℕ} {at n r : ℕ} {t y o p b w e g t′ o′ b′ w′ e′ : List ℕ}
+    → s .act ≡ Letter → Turning (actOf s) k line at n (buffers t y o p b w e g)
+    → t′ ≡ put t (k .b) (take n (drop at line)) → r ≡ typeOf (s .c) → o′ ≡ put o (k .n - 1) (later (k .n) (code (markOf (s .mark))))
     → b′ ≡ put b (k .b) (k .n ∷ replicate (n - 1) 0) → w′ ≡ put w (k .n - 1) (rowEnd k) → e′ ≡ put e (k .k) (closes (k .tag) (k .g))
-    → Stored (λ (q : Part). q .emit (actOf a) k) k (buffers t y o p b w e g) (buffers t′ (set y (k .n) r) o′ (set p (k .n) (k .b)) b′ w′ e′ g)
-unfolding actOf textPart typesPart boundariesPart charPosPart bytePosPart rowEndsPart tagEndsPart tagBytesPart onLetter tagEnd tagByte
-letter-stored {a} {m} {c} {k} {line} {at} {n} i h et er eo eb ew ee =
-    let l = letter-room a m c k line at n _ i h in
+    → Stored (λ (q : Part). q .emit (actOf s) k) k (buffers t y o p b w e g) (buffers t′ (set y (k .n) r) o′ (set p (k .n) (k .b)) b′ w′ e′ g)
+unfolding actBy actOf textPart typesPart boundariesPart charPosPart bytePosPart rowEndsPart tagEndsPart tagBytesPart onLetter tagEnd tagByte
+letter-stored s {k} {line} {at} {n} i h et er eo eb ew ee =
+    let l = letter-room s k line at n _ i h in
     record {
       text-is = rw i (et ∙ rw (l .bytes));
       types-is = rw (i, er);
@@ -84,9 +85,9 @@ letter-stored {a} {m} {c} {k} {line} {at} {n} i h et er eo eb ew ee =
     }
 
 -- ---- nothing
-pub skip-stored : {a : Act} {k : Counts} {d : Buffers} → a ≡ Skip → Stored (λ (q : Part). q .emit (actOf a) k) k d d
-unfolding actOf textPart typesPart boundariesPart charPosPart bytePosPart rowEndsPart tagEndsPart tagBytesPart onLetter tagEnd tagByte
-skip-stored i = record {
+pub skip-stored : (s : Stepped) {k : Counts} {d : Buffers} → s .act ≡ Skip → Stored (λ (q : Part). q .emit (actOf s) k) k d d
+unfolding actBy actOf textPart typesPart boundariesPart charPosPart bytePosPart rowEndsPart tagEndsPart tagBytesPart onLetter tagEnd tagByte
+skip-stored s i = record {
   text-is = rw i;
   types-is = rw i;
   boundaries-is = rw i;
@@ -98,15 +99,15 @@ skip-stored i = record {
 }
 
 -- ---- a tag begins
-pub opens-room : (a : Act) (k : Counts) (line : List ℕ) (at n : ℕ) (d : Buffers) → a ≡ Opens → Turning (actOf a) k line at n d
+pub opens-room : (s : Stepped) (k : Counts) (line : List ℕ) (at n : ℕ) (d : Buffers) → s .act ≡ Opens → Turning (actOf s) k line at n d
     → Small k 4096 × (k .k + length (closes (k .tag) (k .g)) ≤ length (d .tag-ends-buf))
-unfolding actOf tagEndsPart tagEnd
-opens-room a k line at n d i h = let t = rw i at h in (t .small, t .room .tag-ends-room)
+unfolding actBy actOf tagEndsPart tagEnd
+opens-room s k line at n d i h = let t = rw i at h in (t .small, t .room .tag-ends-room)
 
-pub opens-stored : {a : Act} {k : Counts} {t y o p b w e g e′ : List ℕ} → a ≡ Opens → e′ ≡ put e (k .k) (closes (k .tag) (k .g))
-    → Stored (λ (q : Part). q .emit (actOf a) k) k (buffers t y o p b w e g) (buffers t y o p b w e′ g)
-unfolding actOf textPart typesPart boundariesPart charPosPart bytePosPart rowEndsPart tagEndsPart tagBytesPart onLetter tagEnd tagByte
-opens-stored i ee = record {
+pub opens-stored : (s : Stepped) {k : Counts} {t y o p b w e g e′ : List ℕ} → s .act ≡ Opens → e′ ≡ put e (k .k) (closes (k .tag) (k .g))
+    → Stored (λ (q : Part). q .emit (actOf s) k) k (buffers t y o p b w e g) (buffers t y o p b w e′ g)
+unfolding actBy actOf textPart typesPart boundariesPart charPosPart bytePosPart rowEndsPart tagEndsPart tagBytesPart onLetter tagEnd tagByte
+opens-stored s i ee = record {
   text-is = rw i;
   types-is = rw i;
   boundaries-is = rw i;
@@ -126,9 +127,9 @@ pub record TagRoom (k : Counts) (line : List ℕ) (at n : ℕ) (d : Buffers) : T
   pub tag-ends-room : k .k + length (passed (k .tag) (k .gaps) (k .g)) ≤ length (d .tag-ends-buf)
   pub tag-bytes-room : k .g + length (kept (k .tag) (take n (drop at line))) ≤ length (d .tag-bytes-buf)
 
-tag-turning : (c : ℕ) (k : Counts) (line : List ℕ) (at n : ℕ) (d : Buffers) → Turning (actOf (OfTag c)) k line at n d → TagRoom k line at n d
-unfolding actOf tagEndsPart tagBytesPart tagEnd tagByte
-tag-turning c k line at n d t = record {
+tag-turning : (m : Mark) (c : ℕ) (k : Counts) (line : List ℕ) (at n : ℕ) (d : Buffers) → Turning (actBy OfTag m c) k line at n d → TagRoom k line at n d
+unfolding actBy tagEndsPart tagBytesPart tagEnd tagByte
+tag-turning m c k line at n d t = record {
   small = t .small;
   some = t .some;
   few = t .few;
@@ -137,16 +138,17 @@ tag-turning c k line at n d t = record {
   tag-bytes-room = rw (t .bytes) (t .room .tag-bytes-room);
 }
 
-pub tag-room : (a : Act) (c : ℕ) (k : Counts) (line : List ℕ) (at n : ℕ) (d : Buffers) → a ≡ OfTag c → Turning (actOf a) k line at n d → TagRoom k line at n d
-tag-room a c k line at n d i h = tag-turning c k line at n d (rw i at h)
+pub tag-room : (s : Stepped) (k : Counts) (line : List ℕ) (at n : ℕ) (d : Buffers) → s .act ≡ OfTag → Turning (actOf s) k line at n d → TagRoom k line at n d
+unfolding actOf
+tag-room s k line at n d i h = tag-turning (s .mark) (s .c) k line at n d (rw i at h)
 
-pub tag-stored : {a : Act} {c : ℕ} {k : Counts} {line : List ℕ} {at n : ℕ} {t y o p b w e g e′ g′ : List ℕ}
-    → a ≡ OfTag c → Turning (actOf a) k line at n (buffers t y o p b w e g)
+pub tag-stored : (s : Stepped) {k : Counts} {line : List ℕ} {at n : ℕ} {t y o p b w e g e′ g′ : List ℕ}
+    → s .act ≡ OfTag → Turning (actOf s) k line at n (buffers t y o p b w e g)
     → e′ ≡ put e (k .k) (passed (k .tag) (k .gaps) (k .g)) → g′ ≡ put g (k .g) (kept (k .tag) (take n (drop at line)))
-    → Stored (λ (q : Part). q .emit (actOf a) k) k (buffers t y o p b w e g) (buffers t y o p b w e′ g′)
-unfolding actOf textPart typesPart boundariesPart charPosPart bytePosPart rowEndsPart tagEndsPart tagBytesPart onLetter tagEnd tagByte
-tag-stored {c} {k} {line} {at} {n} i h ee eg =
-    let z : take n (drop at line) ≡ encode c = (rw i at h) .bytes in
+    → Stored (λ (q : Part). q .emit (actOf s) k) k (buffers t y o p b w e g) (buffers t y o p b w e′ g′)
+unfolding actBy actOf textPart typesPart boundariesPart charPosPart bytePosPart rowEndsPart tagEndsPart tagBytesPart onLetter tagEnd tagByte
+tag-stored s {k} {line} {at} {n} i h ee eg =
+    let z : take n (drop at line) ≡ encode (s .c) = (rw i at h) .bytes in
     record {
       text-is = rw i;
       types-is = rw i;

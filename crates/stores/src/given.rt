@@ -3,6 +3,7 @@ use counts::Counts;
 use counts::Open;
 use reader::Act;
 use reader::Mark;
+use reader::Stepped;
 ghost use mathlib.Core.Path.{_≡_};
 ghost use mathlib.Core.List.{_∷_};
 ghost use Prim.Native.Nat.{_+_, _-_, _≤_, _<_};
@@ -143,7 +144,7 @@ fn keep(k: Counts, from: &[u8], at: usize, len: usize, tag_bytes: &mut [u8])
 
 // An act whose character is at a place of the line, with the tables of the types.
 pub fn turn<'a>(
-    act: Act,
+    s: Stepped,
     k: Counts,
     line: &[u8],
     at: usize,
@@ -159,16 +160,18 @@ pub fn turn<'a>(
     tag_ends: &mut [u16],
     tag_bytes: &mut [u8],
 )
-    requires { ⌜ Right (now index) (now blocks) × Turning (actOf act) k (now line) at len (buffers (now text) (now types) (now boundaries) (now «char_pos») (now «byte_pos») (now «row_ends») (now «tag_ends») (now «tag_bytes»)) ⌝ }
-    ensures { λ _. ⌜ Stored (λ p. p .emit (actOf act) k) k (buffers (now (text .entry)) (now (types .entry)) (now (boundaries .entry)) (now («char_pos» .entry)) (now («byte_pos» .entry)) (now («row_ends» .entry)) (now («tag_ends» .entry)) (now («tag_bytes» .entry))) (buffers (now (text .exit)) (now (types .exit)) (now (boundaries .exit)) (now («char_pos» .exit)) (now («byte_pos» .exit)) (now («row_ends» .exit)) (now («tag_ends» .exit)) (now («tag_bytes» .exit))) ⌝ }
+    requires { ⌜ Right (now index) (now blocks) × Turning (actOf s) k (now line) at len (buffers (now text) (now types) (now boundaries) (now «char_pos») (now «byte_pos») (now «row_ends») (now «tag_ends») (now «tag_bytes»)) ⌝ }
+    ensures { λ _. ⌜ Stored (λ p. p .emit (actOf s) k) k (buffers (now (text .entry)) (now (types .entry)) (now (boundaries .entry)) (now («char_pos» .entry)) (now («byte_pos» .entry)) (now («row_ends» .entry)) (now («tag_ends» .entry)) (now («tag_bytes» .entry))) (buffers (now (text .exit)) (now (types .exit)) (now (boundaries .exit)) (now («char_pos» .exit)) (now («byte_pos» .exit)) (now («row_ends» .exit)) (now («tag_ends» .exit)) (now («tag_bytes» .exit))) ⌝ }
 {
+    let act = s.act;
     match act {
         Act::Skip => {}
-        Act::Letter { mark, c } => {
+        Act::Letter => {
             let n = k.n;
             let b = k.b;
             copy(line, at, len, text, b);
-            types[n] = types::given::get_type(index, blocks, c);
+            types[n] = types::given::get_type(index, blocks, s.c);
+            let mark = s.mark;
             boundary(n, mark, boundaries);
             char_pos[n] = b as u16;
             number(n, b, len, byte_pos);
@@ -178,7 +181,7 @@ pub fn turn<'a>(
         Act::Opens => {
             end_tag(k, tag_ends);
         }
-        Act::OfTag(_) => {
+        Act::OfTag => {
             pass_tags(k, tag_ends);
             keep(k, line, at, len, tag_bytes);
         }

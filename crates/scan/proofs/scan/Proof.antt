@@ -37,33 +37,27 @@ enum-known-value c = search needs
 step-requires : tie.Need-step-requires Inv-loop μ-loop
 step-requires c κs = search needs
 
-enum-known-next : tie.Need-enum-known-next Inv-loop μ-loop
-enum-known-next c = search needs
-
--- the character that stands where the loop is
-stood : (c : tie.After-known-told2 Inv-loop μ-loop) → Stands (c .before .before .before .before .before .before .before .before .before .before .before .before .before .args .line .now) (c .before .before .before .before .before .before .before .before .loop .at) (c .before .before .before .before .before .value .given .0 .1 .0)
-stood c = search stands
-
-tally-requires : tie.Need-tally-requires Inv-loop μ-loop
-tally-requires c κs = (search scan-small, stood c .few)
-
-add-at : tie.Need-add-at Inv-loop μ-loop
-add-at c = omega (arith, stood (c .before))
-
-loop-less : tie.Need-loop-less Inv-loop μ-loop
-loop-less c = omega (arith, stood (c .before))
-
-loop-again : tie.Need-loop-again Inv-loop μ-loop
-loop-again c = search scan-go
-
-enum-known-number : tie.Need-enum-known-number Inv-loop μ-loop
-enum-known-number c = search needs
-
 stopped-requires : tie.Need-stopped-requires Inv-loop μ-loop
 stopped-requires c κs = search needs
 
 returns-2 : tie.Need-returns-2 Inv-loop μ-loop
 returns-2 c = search scan-stop
+
+-- the character that stands where the loop is
+stood : (c : tie.After-known-told Inv-loop μ-loop) → Stands (c .before .before .before .before .before .before .before .before .before .args .line .now) (c .before .before .before .before .loop .at) (c .before .value .given .0 .1 .0)
+stood c = search stands
+
+tally-requires : tie.Need-tally-requires Inv-loop μ-loop
+tally-requires c κs = (search scan-small, stood (c .before .before .before .before) .few)
+
+add-at : tie.Need-add-at Inv-loop μ-loop
+add-at c = omega (arith, stood (c .before .before .before .before .before))
+
+loop-less : tie.Need-loop-less Inv-loop μ-loop
+loop-less c = omega (arith, stood (c .before .before .before .before .before))
+
+loop-again : tie.Need-loop-again Inv-loop μ-loop
+loop-again c = search scan-go
 
 enum-told : tie.Need-enum-told Inv-loop μ-loop
 enum-told c = search needs
@@ -97,14 +91,12 @@ scan-spec =
     decode-requires
     enum-known-value
     step-requires
-    enum-known-next
+    stopped-requires
+    returns-2
     tally-requires
     add-at
     loop-less
     loop-again
-    enum-known-number
-    stopped-requires
-    returns-2
     enum-told
     refuse-requires-2
     returns-3

@@ -1,5 +1,4 @@
-use Rattle.counts.specs.Counts.{tallyBy}
-use Rattle.reader.specs.Flags.{actOf}
+use Rattle.counts.proofs.Acts.{skip-tally, letter-tally, opens-tally, tag-tally}
 use borrow.Author.Needs.{needs}
 use Rattle.counts.proofs.given.tally.Statement.{statement}
 use Rattle.counts.proofs.given.tally.Tie as tie
@@ -26,20 +25,16 @@ of-tag-requires : tie.Need-of-tag-requires
 of-tag-requires c κs = search needs
 
 returns : tie.Need-returns
-unfolding tallyBy actOf
-returns c = cc
+returns c = search skip-tally
 
 returns-2 : tie.Need-returns-2
-unfolding tallyBy actOf
-returns-2 c = cc
+returns-2 c = search letter-tally
 
 returns-3 : tie.Need-returns-3
-unfolding tallyBy actOf
-returns-3 c = cc
+returns-3 c = search opens-tally
 
 returns-4 : tie.Need-returns-4
-unfolding tallyBy actOf
-returns-4 c = cc
+returns-4 c = search tag-tally
 
 pub tally-spec : {M : Type 1} → statement M
 tally-spec =

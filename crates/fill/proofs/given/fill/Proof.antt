@@ -5,7 +5,7 @@ use borrow.Author.Needs.{needs}
 use lib.ListN.{length}
 use Rattle.sheet.specs.Layout.{buffers}
 use Rattle.reader.specs.Flags.{formOf}
-use Rattle.fill.proofs.Laying.{Laying, Span, Long, lay-start, lay-stands, lay-small, lay-span, lay-never, lay-turning, lay-go, lay-finishing, lay-done, lay-long}
+use Rattle.fill.proofs.Laying.{Laying, Span, Long, lay-start, lay-stands, lay-small, lay-span, lay-some, lay-turning, lay-go, lay-finishing, lay-done, lay-long}
 use Rattle.fill.proofs.given.fill.Statement.{statement}
 use Rattle.fill.proofs.given.fill.Tie as tie
 
@@ -32,90 +32,57 @@ loop-holds c = lay-start _ _ _ _ _ (c .before .before .before .before .before .b
 char-at-requires : tie.Need-char-at-requires Inv-loop μ-loop
 char-at-requires c κs = lay-stands (c .before .loop .inv) (c .loop-test .taken)
 
-step-requires : tie.Need-step-requires Inv-loop μ-loop
-step-requires c κs = search needs
-
-enum-known-next : tie.Need-enum-known-next Inv-loop μ-loop
-enum-known-next c = search needs
+follow-requires : tie.Need-follow-requires Inv-loop μ-loop
+follow-requires c κs = lay-some (c .before .before .loop .inv) (c .char-at .ensures)
 
 turn-requires : tie.Need-turn-requires Inv-loop μ-loop
-turn-requires c κs = (c .before .before .before .before .before .before .before .before .before .before .before .before .before .before .before .before .before .before .before .before .new .ensures, lay-turning (c .before .before .before .before .before .before .before .before .before .before .before .before .before .before .before .before .before .loop .inv) (c .before .before .before .before .before .before .before .before .before .before .before .before .before .before .before .char-at .ensures) (c .before .before .before .before .before .before .before .before .before .before .before .before .before .before .step .ensures) (c .before .before .before .before .before .before .before .before .before .before .before .before .next .given .1))
+turn-requires c κs = (c .before .before .before .before .before .before .before .before .before .before .before .before .before .before .before .before .before .new .ensures, lay-turning (c .before .before .before .before .before .before .before .before .before .before .before .before .before .before .loop .inv) (c .before .before .before .before .before .before .before .before .before .before .before .before .char-at .ensures) (c .before .before .before .before .before .before .before .before .before .before .before .follow .ensures))
 
 -- the character that stands where the loop is
 span : (c : tie.After-char-at Inv-loop μ-loop) → Span (c .before .before .before .before .before .before .before .before .before .before .before .before .before .before .before .args .line .now) (c .before .before .loop .at) (c .char-at .result .len)
 span c = lay-span (c .before .before .loop .inv) (c .char-at .ensures)
 
 tally-requires : tie.Need-tally-requires Inv-loop μ-loop
-tally-requires c κs = (lay-small (c .before .before .before .before .before .before .before .before .before .before .before .before .before .before .before .before .before .before .before .before .before .before .before .before .before .before .before .before .before .before .before .before .before .before .loop .inv), span (c .before .before .before .before .before .before .before .before .before .before .before .before .before .before .before .before .before .before .before .before .before .before .before .before .before .before .before .before .before .before .before .before) .few)
+tally-requires c κs = (lay-small (c .before .before .before .before .before .before .before .before .before .before .before .before .before .before .before .before .before .before .before .before .before .before .before .before .before .before .before .before .before .before .before .before .loop .inv), span (c .before .before .before .before .before .before .before .before .before .before .before .before .before .before .before .before .before .before .before .before .before .before .before .before .before .before .before .before .before .before) .few)
 
 add-at : tie.Need-add-at Inv-loop μ-loop
-add-at c = omega (arith, span (c .before .before .before .before .before .before .before .before .before .before .before .before .before .before .before .before .before .before .before .before .before .before .before .before .before .before .before .before .before .before .before .before .before))
+add-at c = omega (arith, span (c .before .before .before .before .before .before .before .before .before .before .before .before .before .before .before .before .before .before .before .before .before .before .before .before .before .before .before .before .before .before .before))
 
 loop-less : tie.Need-loop-less Inv-loop μ-loop
-loop-less c = omega (arith, span (c .before .before .before .before .before .before .before .before .before .before .before .before .before .before .before .before .before .before .before .before .before .before .before .before .before .before .before .before .before .before .before .before .before))
+loop-less c = omega (arith, span (c .before .before .before .before .before .before .before .before .before .before .before .before .before .before .before .before .before .before .before .before .before .before .before .before .before .before .before .before .before .before .before))
 
 loop-again : tie.Need-loop-again Inv-loop μ-loop
-loop-again c = lay-go (c .before .before .before .before .before .before .before .before .before .before .before .before .before .before .before .before .before .before .before .before .before .before .before .before .before .before .before .before .before .before .before .before .before .before .before .loop .inv) (c .before .before .before .before .before .before .before .before .before .before .before .before .before .before .before .before .before .before .before .before .before .before .before .before .before .before .before .before .before .before .before .before .before .char-at .ensures) (c .before .before .before .before .before .before .before .before .before .before .before .before .before .before .before .before .before .before .before .before .before .before .before .before .before .before .before .before .before .before .before .before .step .ensures) (c .before .before .before .before .before .before .before .before .before .before .before .before .before .before .before .before .before .before .before .before .before .before .before .before .before .before .before .before .before .before .next .given .1) (c .before .before .before .before .before .before .before .before .before .before .before .before .before .before .before .before .before .turn .ensures) (c .tally .ensures)
-
-enum-told : tie.Need-enum-told Inv-loop μ-loop
-enum-told c = search needs
-
-same-length : tie.Need-same-length Inv-loop μ-loop
-same-length c = lay-long (c .before .before .before .before .before .loop .inv) .text-long
-
-same-length-2 : tie.Need-same-length-2 Inv-loop μ-loop
-same-length-2 c = lay-long (c .before .before .before .before .before .loop .inv) .types-long
-
-same-length-3 : tie.Need-same-length-3 Inv-loop μ-loop
-same-length-3 c = lay-long (c .before .before .before .before .before .loop .inv) .boundaries-long
-
-same-length-4 : tie.Need-same-length-4 Inv-loop μ-loop
-same-length-4 c = lay-long (c .before .before .before .before .before .loop .inv) .char-pos-long
-
-same-length-5 : tie.Need-same-length-5 Inv-loop μ-loop
-same-length-5 c = lay-long (c .before .before .before .before .before .loop .inv) .byte-pos-long
-
-same-length-6 : tie.Need-same-length-6 Inv-loop μ-loop
-same-length-6 c = lay-long (c .before .before .before .before .before .loop .inv) .row-ends-long
-
-same-length-7 : tie.Need-same-length-7 Inv-loop μ-loop
-same-length-7 c = lay-long (c .before .before .before .before .before .loop .inv) .tag-ends-long
-
-same-length-8 : tie.Need-same-length-8 Inv-loop μ-loop
-same-length-8 c = lay-long (c .before .before .before .before .before .loop .inv) .tag-bytes-long
-
-returns : tie.Need-returns Inv-loop μ-loop
-returns c = absurd (lay-never (c .before .before .before .before .before .loop .inv) (c .before .before .before .char-at .ensures) (c .before .before .step .ensures) (c .enum-told .given .1))
+loop-again c = lay-go (c .before .before .before .before .before .before .before .before .before .before .before .before .before .before .before .before .before .before .before .before .before .before .before .before .before .before .before .before .before .before .before .before .before .loop .inv) (c .before .before .before .before .before .before .before .before .before .before .before .before .before .before .before .before .before .before .before .before .before .before .before .before .before .before .before .before .before .before .before .char-at .ensures) (c .before .before .before .before .before .before .before .before .before .before .before .before .before .before .before .before .before .before .before .before .before .before .before .before .before .before .before .before .before .before .follow .ensures) (c .before .before .before .before .before .before .before .before .before .before .before .before .before .before .before .before .before .before .turn .ensures) (c .tally .ensures)
 
 finish-requires : tie.Need-finish-requires Inv-loop μ-loop
 finish-requires c κs = lay-finishing (c .before .before .before .before .before .loop .inv) (c .before .before .before .before .loop-test .left)
 
-same-length-9 : tie.Need-same-length-9 Inv-loop μ-loop
-same-length-9 c = lay-long (c .before .before .before .before .before .before .before .before .before .before .before .before .before .before .loop .inv) .text-long
+same-length : tie.Need-same-length Inv-loop μ-loop
+same-length c = lay-long (c .before .before .before .before .before .before .before .before .before .before .before .before .before .before .loop .inv) .text-long
 
-same-length-10 : tie.Need-same-length-10 Inv-loop μ-loop
-same-length-10 c = lay-long (c .before .before .before .before .before .before .before .before .before .before .before .before .before .before .loop .inv) .types-long
+same-length-2 : tie.Need-same-length-2 Inv-loop μ-loop
+same-length-2 c = lay-long (c .before .before .before .before .before .before .before .before .before .before .before .before .before .before .loop .inv) .types-long
 
-same-length-11 : tie.Need-same-length-11 Inv-loop μ-loop
-same-length-11 c = lay-long (c .before .before .before .before .before .before .before .before .before .before .before .before .before .before .loop .inv) .boundaries-long
+same-length-3 : tie.Need-same-length-3 Inv-loop μ-loop
+same-length-3 c = lay-long (c .before .before .before .before .before .before .before .before .before .before .before .before .before .before .loop .inv) .boundaries-long
 
-same-length-12 : tie.Need-same-length-12 Inv-loop μ-loop
-same-length-12 c = c .before .before .before .before .before .before .before .before .finish .kept .1 .0 ∙ lay-long (c .before .before .before .before .before .before .before .before .before .before .before .before .before .before .loop .inv) .char-pos-long
+same-length-4 : tie.Need-same-length-4 Inv-loop μ-loop
+same-length-4 c = c .before .before .before .before .before .before .before .before .finish .kept .1 .0 ∙ lay-long (c .before .before .before .before .before .before .before .before .before .before .before .before .before .before .loop .inv) .char-pos-long
 
-same-length-13 : tie.Need-same-length-13 Inv-loop μ-loop
-same-length-13 c = c .before .before .before .before .before .before .before .before .finish .kept .1 .1 .0 ∙ lay-long (c .before .before .before .before .before .before .before .before .before .before .before .before .before .before .loop .inv) .byte-pos-long
+same-length-5 : tie.Need-same-length-5 Inv-loop μ-loop
+same-length-5 c = c .before .before .before .before .before .before .before .before .finish .kept .1 .1 .0 ∙ lay-long (c .before .before .before .before .before .before .before .before .before .before .before .before .before .before .loop .inv) .byte-pos-long
 
-same-length-14 : tie.Need-same-length-14 Inv-loop μ-loop
-same-length-14 c = c .before .before .before .before .before .before .before .before .finish .kept .1 .1 .1 .0 ∙ lay-long (c .before .before .before .before .before .before .before .before .before .before .before .before .before .before .loop .inv) .row-ends-long
+same-length-6 : tie.Need-same-length-6 Inv-loop μ-loop
+same-length-6 c = c .before .before .before .before .before .before .before .before .finish .kept .1 .1 .1 .0 ∙ lay-long (c .before .before .before .before .before .before .before .before .before .before .before .before .before .before .loop .inv) .row-ends-long
 
-same-length-15 : tie.Need-same-length-15 Inv-loop μ-loop
-same-length-15 c = c .before .before .before .before .before .before .before .before .finish .kept .1 .1 .1 .1 .0 ∙ lay-long (c .before .before .before .before .before .before .before .before .before .before .before .before .before .before .loop .inv) .tag-ends-long
+same-length-7 : tie.Need-same-length-7 Inv-loop μ-loop
+same-length-7 c = c .before .before .before .before .before .before .before .before .finish .kept .1 .1 .1 .1 .0 ∙ lay-long (c .before .before .before .before .before .before .before .before .before .before .before .before .before .before .loop .inv) .tag-ends-long
 
-same-length-16 : tie.Need-same-length-16 Inv-loop μ-loop
-same-length-16 c = lay-long (c .before .before .before .before .before .before .before .before .before .before .before .before .before .before .loop .inv) .tag-bytes-long
+same-length-8 : tie.Need-same-length-8 Inv-loop μ-loop
+same-length-8 c = lay-long (c .before .before .before .before .before .before .before .before .before .before .before .before .before .before .loop .inv) .tag-bytes-long
 
-returns-2 : tie.Need-returns-2 Inv-loop μ-loop
-returns-2 c = lay-done (c .before .before .before .before .before .before .before .before .before .before .before .before .before .before .loop .inv) (c .before .before .before .before .before .before .before .before .before .before .before .before .before .loop-test .left) (c .before .before .before .before .before .before .before .before .finish .ensures)
+returns : tie.Need-returns Inv-loop μ-loop
+returns c = lay-done (c .before .before .before .before .before .before .before .before .before .before .before .before .before .before .loop .inv) (c .before .before .before .before .before .before .before .before .before .before .before .before .before .loop-test .left) (c .before .before .before .before .before .before .before .before .finish .ensures)
 
 pub fill-spec : {M : Type 1} → statement M
 fill-spec =
@@ -128,14 +95,13 @@ fill-spec =
     new-requires-3
     loop-holds
     char-at-requires
-    step-requires
-    enum-known-next
+    follow-requires
     turn-requires
     tally-requires
     add-at
     loop-less
     loop-again
-    enum-told
+    finish-requires
     same-length
     same-length-2
     same-length-3
@@ -144,14 +110,4 @@ fill-spec =
     same-length-6
     same-length-7
     same-length-8
-    returns
-    finish-requires
-    same-length-9
-    same-length-10
-    same-length-11
-    same-length-12
-    same-length-13
-    same-length-14
-    same-length-15
-    same-length-16
-    returns-2)
+    returns)

@@ -1,5 +1,4 @@
-use Rattle.reader.specs.Flags.{actIn, stepped}
-use Rattle.reader.proofs.Steps.{far-back}
+use Rattle.reader.proofs.Steps.{handed-back}
 use borrow.Author.Needs.{needs}
 use Rattle.reader.proofs.State.backslash.Statement.{statement}
 use Rattle.reader.proofs.State.backslash.Tie as tie
@@ -8,8 +7,7 @@ escaped-requires : tie.Need-escaped-requires
 escaped-requires c κs = search needs
 
 returns : tie.Need-returns
-unfolding actIn stepped
-returns c = search far-back
+returns c = search handed-back
 
 pub backslash-spec : {M : Type 1} → statement M
 backslash-spec = tie.close (tie.spec escaped-requires returns)

@@ -19,6 +19,9 @@ letter-requires-2 c κs = search needs
 enum-told-3 : tie.Need-enum-told-3
 enum-told-3 c = search needs
 
+refused-requires : tie.Need-refused-requires
+refused-requires c κs = search needs
+
 returns : tie.Need-returns
 unfolding ordinary formOf markOf stepped
 returns c = cc
@@ -40,6 +43,7 @@ behind-spec =
     enum-told-2
     letter-requires-2
     enum-told-3
+    refused-requires
     returns
     returns-2
     returns-3)

@@ -1,5 +1,5 @@
 use borrow.Author.Needs.{needs}
-use Rattle.reader.specs.Flags.{flagsAt, flags, actIn, stepped}
+use Rattle.reader.specs.Flags.{flagsAt, flags, actIn, beforeIn, stepped}
 use Rattle.sentence.specs.Reading.{opening, step}
 use Rattle.reader.proofs.Steps.{near-mark}
 use Rattle.reader.proofs.Places.{places}
@@ -7,17 +7,23 @@ use Rattle.reader.proofs.Enums.{mark-back}
 use Rattle.reader.proofs.State.boundary.Statement.{statement}
 use Rattle.reader.proofs.State.boundary.Tie as tie
 
+refused-requires : tie.Need-refused-requires
+refused-requires c κs = search needs
+
 returns : tie.Need-returns
-unfolding opening step stepped
+unfolding opening step
 returns c = search places
 
+refused-requires-2 : tie.Need-refused-requires-2
+refused-requires-2 c κs = search needs
+
 returns-2 : tie.Need-returns-2
-unfolding opening step stepped
+unfolding opening step
 returns-2 c = search places
 
 returns-3 : tie.Need-returns-3
-unfolding flagsAt flags actIn stepped
+unfolding flagsAt flags actIn beforeIn stepped
 returns-3 c = search (places, near-mark, mark-back)
 
 pub boundary-spec : {M : Type 1} → statement M
-boundary-spec = tie.close (tie.spec returns returns-2 returns-3)
+boundary-spec = tie.close (tie.spec refused-requires returns refused-requires-2 returns-2 returns-3)

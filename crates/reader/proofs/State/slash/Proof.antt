@@ -1,4 +1,4 @@
-use Rattle.reader.specs.Flags.{actIn, stepped}
+use Rattle.reader.specs.Flags.{actIn, beforeIn, stepped}
 use Rattle.reader.proofs.Steps.{near-slash, far-slash}
 use Rattle.laws.proofs.Tests.{of-call}
 use borrow.Author.Needs.{needs}
@@ -8,16 +8,19 @@ use Rattle.reader.proofs.State.slash.Tie as tie
 awaits-requires : tie.Need-awaits-requires
 awaits-requires c κs = search needs
 
+refused-requires : tie.Need-refused-requires
+refused-requires c κs = search needs
+
 returns : tie.Need-returns
-unfolding actIn stepped
+unfolding actIn beforeIn stepped
 returns c = search (near-slash, far-slash, of-call)
 
 in-tag-requires : tie.Need-in-tag-requires
 in-tag-requires c κs = search needs
 
 returns-2 : tie.Need-returns-2
-unfolding actIn stepped
+unfolding actIn beforeIn stepped
 returns-2 c = search (near-slash, far-slash, of-call)
 
 pub slash-spec : {M : Type 1} → statement M
-slash-spec = tie.close (tie.spec awaits-requires returns in-tag-requires returns-2)
+slash-spec = tie.close (tie.spec awaits-requires refused-requires returns in-tag-requires returns-2)

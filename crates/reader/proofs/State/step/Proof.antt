@@ -1,4 +1,4 @@
-use Rattle.reader.specs.Flags.{kindOf, stepped}
+use Rattle.reader.specs.Flags.{kindOf}
 use Rattle.sentence.specs.Reading.{advance}
 use Rattle.reader.proofs.Steps.{hands-escaped, hands-literal, hands-mark, hands-slash, hands-back, hands-plain}
 use Rattle.laws.proofs.Tests.{tests}
@@ -6,8 +6,11 @@ use borrow.Author.Needs.{needs}
 use Rattle.reader.proofs.State.step.Statement.{statement}
 use Rattle.reader.proofs.State.step.Tie as tie
 
+refused-requires : tie.Need-refused-requires
+refused-requires c κs = search needs
+
 returns : tie.Need-returns
-unfolding advance stepped
+unfolding advance
 returns c = search tests
 
 ordinary-requires : tie.Need-ordinary-requires
@@ -68,6 +71,7 @@ pub step-spec : {M : Type 1} → statement M
 step-spec =
     tie.close
     (tie.spec
+    refused-requires
     returns
     ordinary-requires
     returns-2
