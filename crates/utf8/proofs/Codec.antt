@@ -117,7 +117,7 @@ four-out a b c d v t =
 bits : (x t v : ℕ) → x ≡ v / 64 → t ≡ 0x80 + v % 64 → x * 64 + t % 64 ≡ v
 bits x t v e f = omega arith
 
-one-decoded : (a b c d : ℕ) → utf8-1 a ≡ true → charOf a b c d ≡ Char a 1
+pub one-decoded : (a b c d : ℕ) → utf8-1 a ≡ true → charOf a b c d ≡ Char a 1
 unfolding charOf if_then_else_
 one-decoded a b c d e = rw e
 
@@ -135,6 +135,10 @@ three-decoded a b c d v t =
       bits (a % 16) b (v / 64) (omega arith) (t .next),
       bits (v / 64) c v refl (t .last),
     )
+
+-- what the grammar takes for three bytes, decoded
+pub three-told : (a b c d : ℕ) → utf8-3 a b c ≡ true → charOf a b c d ≡ Char ((a % 16 * 64 + b % 64) * 64 + c % 64) 3
+three-told a b c d h = three-decoded a b c d _ (three-in a b c _ refl h)
 
 four-decoded : (a b c d v : ℕ) → Four a b c d v → charOf a b c d ≡ Char v 4
 unfolding charOf if_then_else_

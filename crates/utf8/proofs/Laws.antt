@@ -1,16 +1,21 @@
 -- What the loops over `decode` need of the specification. Assumes nothing.
-use Prim.Native.Nat.{ℕ, suc, _+_, _≤_, _<_}
+use Prim.Native.Nat.{ℕ, suc, _+_, _*_, _%_, _≤_, _<_}
 use native.Mathlib.Omega.{arith}
 use native.Mathlib.Decide.{decLe}
 use mathlib.Core.Path.{_≡_, sym, ap, _∙_}
+use mathlib.Core.Logic.{inl, inr}
+use mathlib.Core.Bool.{Bool, true, _&&_, and-eq-true-iff}
 use mathlib.Core.List.{List, [], _∷_}
+use borrow.Author.Tests.{le-leb, ltb-true}
+use lib.Dec.{ltb}
 use lib.ListN.{length, getD, drop, length-take, length-drop, drop-of-length-le}
 use lib.Seq.{drop-cons, getD-drop, drop-drop}
 use Rattle.laws.specs.If.{if-both}
+use Rattle.laws.proofs.Facts.{reads, or-is}
 use Rattle.utf8.specs.declared.Decoded.{Decoded}
 use Rattle.utf8.specs.declared.Decoded.the-variants.{Char, Bad, End}
-use Rattle.utf8.specs.Utf8.{charOf, charAt, decodeAt, chars, wholes, validPrefix, width}
-use Rattle.utf8.proofs.Codec.{encode-decode, width-small, length-encode}
+use Rattle.utf8.specs.Utf8.{within, tail, utf8-3, charOf, charAt, decodeAt, chars, wholes, validPrefix, width}
+use Rattle.utf8.proofs.Codec.{one-decoded, three-told, encode-decode, width-small, length-encode}
 use Rattle.utf8.proofs.Walk.{walk-char, walk-bad, walk-end}
 
 -- ---- what stands at a place, by its bytes
@@ -24,6 +29,38 @@ decode-in s at h = rw (drop-cons s at 0 h, nth s at 0 (at + 1) (omega arith), nt
 pub decode-out : (s : List ℕ) (at : ℕ) → length s ≤ at → decodeAt s at ≡ End
 unfolding decodeAt
 decode-out s at h = ap charAt (drop-of-length-le s h)
+
+-- ---- the commonest characters, by the tests that tell them
+pub ascii-at : (s : List ℕ) (at : ℕ) → at < length s → getD s at 0 ≤ 0x7F → Char (getD s at 0) 1 ≡ decodeAt s at
+ascii-at s at h l = sym (decode-in s at h ∙ one-decoded _ _ _ _ (le-leb _ _ l))
+
+-- a byte that was tested
+bounds : (lo hi b : ℕ) (r : Bool) → r ≡ within lo hi b → r ≡ true → (lo ≤ b) × (b ≤ hi)
+bounds lo hi b r e h = simp reads at (sym e ∙ h)
+
+-- a lead byte of three, and the last of them inside
+pub record Ahead (a last n : ℕ) : Type 0 where
+  pub lead : (0xE1 ≤ a) × (a ≤ 0xEC)
+  pub inside : last < n
+
+pub ahead : (r : Bool) (a last n : ℕ) → r ≡ within 0xE1 0xEC a → (r && ltb last n) ≡ true → Ahead a last n
+ahead r a last n e h = let k = and-eq-true-iff r (ltb last n) .0 h in record { lead = bounds _ _ a r e (k .0); inside = ltb-true _ _ (k .1) }
+
+-- two bytes that go on with a character
+pub record Tails (b c : ℕ) : Type 0 where
+  pub next : (0x80 ≤ b) × (b ≤ 0xBF)
+  pub last : (0x80 ≤ c) × (c ≤ 0xBF)
+
+pub tails : (p q : Bool) (b c : ℕ) → p ≡ tail b → q ≡ tail c → (p && q) ≡ true → Tails b c
+tails p q b c d e h = let k = and-eq-true-iff p q .0 h in record { next = bounds _ _ b p d (k .0); last = bounds _ _ c q e (k .1) }
+
+three-by : (a b c last n : ℕ) → Ahead a last n → Tails b c → utf8-3 a b c ≡ true
+unfolding utf8-3
+three-by a b c last n h t = simp or-is (inl (simp or-is (inl (simp or-is (inr (simp reads (omega arith)))))))
+
+pub three-at : (s : List ℕ) (at : ℕ) → Ahead (getD s at 0) (at + 2) (length s) → Tails (getD s (at + 1) 0) (getD s (at + 2) 0)
+    → Char ((getD s at 0 % 16 * 64 + getD s (at + 1) 0 % 64) * 64 + getD s (at + 2) 0 % 64) 3 ≡ decodeAt s at
+three-at s at h t = sym (decode-in s at (omega (arith, h .inside)) ∙ three-told _ _ _ _ (three-by _ _ _ _ _ h t))
 
 -- where a place stands, by what is found there
 char-some : (a b c d : ℕ) → charOf a b c d ≡ End → ⊥
