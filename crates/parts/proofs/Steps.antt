@@ -28,6 +28,13 @@ left-go w x a y l e t = record { is = l .is ∙ e ∙ rw t }
 pub left-no : (w x a y : Bool) → Left w x → x ≡ (a && y) → a ≡ false → false ≡ w
 left-no w x a y l e t = sym (l .is ∙ e ∙ rw t)
 
+-- tests that are gathered, and what is left
+pub left-and : (w o x a y : Bool) → Left w (o && x) → x ≡ (a && y) → Left w ((o && a) && y)
+left-and w o x a y l e = record { is = l .is ∙ rw (e, and-assoc) }
+
+pub left-all : (w o x : Bool) → Left w (o && x) → x ≡ true → o ≡ w
+left-all w o x l e = sym (l .is ∙ rw (e, and-true))
+
 pub left-is : (w x y : Bool) → Left w x → x ≡ y → y ≡ w
 left-is w x y l e = sym (l .is ∙ e)
 
@@ -39,6 +46,58 @@ zeros-step d i h = rw (drop-step i d h)
 pub zeros-done : (d : List ℕ) (i : ℕ) → length d ≤ i → zeros (drop i d) ≡ true
 unfolding zeros
 zeros-done d i h = rw (drop-none i d h)
+
+zeros-take : (m : ℕ) (d : List ℕ) (i : ℕ) → i < length d → zeros (take (suc m) (drop i d)) ≡ (eqb (getD d i 0) 0 && zeros (take m (drop (i + 1) d)))
+unfolding zeros
+zeros-take m d i h = rw (drop-step i d h)
+
+-- the inner bytes of a character, one after another
+module _ (d : List ℕ) (at n : ℕ) (f : (1 ≤ n) × (n ≤ 4) × (at + n ≤ length d)) where
+  pub inner-one : n ≡ 1 → true ≡ zeros (take (at + n - (at + 1)) (drop (at + 1) d))
+  unfolding zeros
+  inner-one h = let k : at + n - (at + 1) ≡ 0 = omega arith in rw k
+
+  inner-first : 2 ≤ n → zeros (take (at + n - (at + 1)) (drop (at + 1) d)) ≡ (eqb (getD d (at + 1) 0) 0 && zeros (take (n - 2) (drop (at + 2) d)))
+  inner-first h =
+      let k : at + n - (at + 1) ≡ suc (n - 2) = omega arith in
+      let m : at + 1 + 1 ≡ at + 2 = omega arith in
+      rw k (zeros-take (n - 2) d (at + 1) (omega (arith, f)) ∙ rw m)
+
+  inner-second : 3 ≤ n → zeros (take (n - 2) (drop (at + 2) d)) ≡ (eqb (getD d (at + 2) 0) 0 && zeros (take (n - 3) (drop (at + 3) d)))
+  inner-second h =
+      let k : n - 2 ≡ suc (n - 3) = omega arith in
+      let m : at + 2 + 1 ≡ at + 3 = omega arith in
+      rw k (zeros-take (n - 3) d (at + 2) (omega (arith, f)) ∙ rw m)
+
+  module _ (h : n ≡ 1 → ⊥) where
+    pub inner-no : (getD d (at + 1) 0 ≡ 0 → ⊥) → false ≡ zeros (take (at + n - (at + 1)) (drop (at + 1) d))
+    inner-no e = sym (inner-first (omega (arith, f)) ∙ rw (ne-eqb (getD d (at + 1) 0) 0 e))
+
+    module _ (e : getD d (at + 1) 0 ≡ 0) where
+      passed : zeros (take (at + n - (at + 1)) (drop (at + 1) d)) ≡ zeros (take (n - 2) (drop (at + 2) d))
+      passed = inner-first (omega (arith, f)) ∙ rw (eq-eqb (getD d (at + 1) 0) 0 e)
+
+      pub inner-two : n ≡ 2 → true ≡ zeros (take (at + n - (at + 1)) (drop (at + 1) d))
+      unfolding zeros
+      inner-two q = let k : n - 2 ≡ 0 = omega arith in sym (passed ∙ rw k)
+
+      module _ (q : n ≡ 2 → ⊥) where
+        pub inner-no-2 : (getD d (at + 2) 0 ≡ 0 → ⊥) → false ≡ zeros (take (at + n - (at + 1)) (drop (at + 1) d))
+        inner-no-2 g = sym (passed ∙ inner-second (omega (arith, f)) ∙ rw (ne-eqb (getD d (at + 2) 0) 0 g))
+
+        module _ (g : getD d (at + 2) 0 ≡ 0) where
+          passed-2 : zeros (take (at + n - (at + 1)) (drop (at + 1) d)) ≡ zeros (take (n - 3) (drop (at + 3) d))
+          passed-2 = passed ∙ inner-second (omega (arith, f)) ∙ rw (eq-eqb (getD d (at + 2) 0) 0 g)
+
+          pub inner-three : n ≡ 3 → true ≡ zeros (take (at + n - (at + 1)) (drop (at + 1) d))
+          unfolding zeros
+          inner-three r = let k : n - 3 ≡ 0 = omega arith in sym (passed-2 ∙ rw k)
+
+          pub inner-last : (n ≡ 3 → ⊥) → eqb (getD d (at + 3) 0) 0 ≡ zeros (take (at + n - (at + 1)) (drop (at + 1) d))
+          unfolding zeros
+          inner-last r =
+              let k : n - 3 ≡ suc 0 = omega (arith, f) in
+              sym (passed-2 ∙ rw k (zeros-take 0 d (at + 3) (omega (arith, f))) ∙ and-true _)
 
 pub marks-step : (d : List ℕ) (i : ℕ) → i < length d → areMarks (drop i d) ≡ (leb (getD d i 0) 2 && areMarks (drop (i + 1) d))
 unfolding areMarks
@@ -105,6 +164,16 @@ module _ (n : ℕ) (ts : List ℕ) (k e : ℕ) where
   pub row-some : (a b : ℕ) → k ≤ e → e ≤ length ts → e - k ≤ n → (e ≡ k → ⊥) → a ≡ getD (0 ∷ ts) (e - 1) 0 → b ≡ getD (0 ∷ ts) e 0 → ltb a b ≡ isRow n ts k e
   unfolding isRow present
   row-some a b h l m q i j = rw (i, j, le-leb k e h, le-leb e (length ts) l, le-leb (e - k) n m, ne-eqb e k q)
+
+-- where no tag is listed, every row ends at 0
+rows-none : (n : ℕ) (ts es : List ℕ) → length ts ≡ 0 → zeros es ≡ chain (isRow n ts) (length ts) 0 es
+unfolding zeros chain
+rows-none n ts [] h = sym (eq-eqb 0 (length ts) (sym h))
+rows-none n ts (zero ∷ es) h = rw (← (row-none n ts 0 0 (omega arith) (omega arith) (omega arith) refl)) (rows-none n ts es h)
+rows-none n ts (suc e ∷ es) h = rw (eqb·suc-zero e, ← (row-past n ts 0 (suc e) (omega arith) (omega arith)))
+
+pub no-rows : (n : ℕ) (ts es : List ℕ) (r : Bool) → length ts ≡ 0 → r ≡ zeros es → r ≡ chain (isRow n ts) (length ts) 0 es
+no-rows n ts es r h e = e ∙ rows-none n ts es h
 
 -- ---- characters
 and-swap : (a b c : Bool) → (a && (b && c)) ≡ (b && (a && c))
@@ -233,7 +302,7 @@ module _ (s ys ps qs : List ℕ) (at i : ℕ) (f : Places s ys ps qs) (h : Readi
     pub read-fits : i < length ys → CharFits i at n ys ps qs
     read-fits l =
         let r = reach s at v n d p q in
-        record { some = r .some; types-fit = l; starts-fit = omega (arith, f .starts-long); numbers-fit = omega (arith, f .numbers-long, r .within) }
+        record { some = r .some; few = omega (arith, r .wide, width-small v); types-fit = l; starts-fit = omega (arith, f .starts-long); numbers-fit = omega (arith, f .numbers-long, r .within) }
 
     read-char : i < length ys → isText s ys ps qs ≡ (isChar v (typeOf v) i at n ys ps qs && textFrom s ys ps qs (at + n) (i + 1))
     unfolding textFrom starts numbers isChar

@@ -49,6 +49,7 @@ isChar v t i at n ys ps qs =
 -- room for it
 pub record CharFits (i at n : ℕ) (ys ps qs : List ℕ) : Type 0 where
   pub some : 1 ≤ n
+  pub few : n ≤ 4
   pub types-fit : i < length ys
   pub starts-fit : i < length ps
   pub numbers-fit : at + n ≤ length qs

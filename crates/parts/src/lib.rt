@@ -2,24 +2,46 @@
 use types::blocks::Tables;
 use types::given::get_type;
 use utf8::Decoded;
-ghost use Prim.Native.Nat.{_≤_};
+ghost use Prim.Native.Nat.{_+_, _-_, _≤_};
 ghost use mathlib.Core.Path.{_≡_};
 ghost use mathlib.Core.List.{_∷_};
-ghost use lib.ListN.{length, getD};
+ghost use lib.ListN.{length, take, drop, getD};
 ghost use Rattle.parts.specs.Parts.{zeros, isPlain, isChar, CharFits, isText, Places, areMarks, isTag, areTags, isRow, areRows};
 
-// Nothing but 0: the byte positions inside a character.
+// Nothing but 0: the ends of the rows where no tag is listed.
 fn all_zero(d: &[u16]) -> bool
     ensures { λ ok. ⌜ ok ≡ zeros (now (d .entry)) ⌝ }
 {
+    let mut ok = true;
     let mut i = 0;
     while i < d.len() {
-        if d[i] != 0 {
-            return false;
-        }
+        ok = ok & (d[i] == 0);
         i += 1;
     }
-    true
+    ok
+}
+
+// Nothing but 0 at the inner bytes of a character.
+fn inner_zero(d: &[u16], at: usize, len: usize) -> bool
+    requires { ⌜ (1 ≤ len) × (len ≤ 4) × (at + len ≤ length (now d)) ⌝ }
+    ensures { λ ok. ⌜ ok ≡ zeros (take (at + len - (at + 1)) (drop (at + 1) (now (d .entry)))) ⌝ }
+{
+    if len == 1 {
+        return true;
+    }
+    if d[at + 1] != 0 {
+        return false;
+    }
+    if len == 2 {
+        return true;
+    }
+    if d[at + 2] != 0 {
+        return false;
+    }
+    if len == 3 {
+        return true;
+    }
+    d[at + 3] == 0
 }
 
 // A character with its type, its start, its number, and 0 at its inner bytes.
@@ -40,7 +62,7 @@ fn is_char(
         & (kind == types[i])
         & (at == char_pos[i] as usize)
         & (i == byte_pos[at] as usize)
-        & all_zero(&byte_pos[at + 1..at + len])
+        & inner_zero(byte_pos, at, len)
 }
 
 // The text, its types and its positions, where there are as many positions as there should be.
@@ -92,14 +114,13 @@ pub fn is_text(text: &[u8], types: &[u8], char_pos: &[u16], byte_pos: &[u16]) ->
 pub fn are_marks(marks: &[u8]) -> bool
     ensures { λ ok. ⌜ ok ≡ areMarks (now (marks .entry)) ⌝ }
 {
+    let mut ok = true;
     let mut i = 0;
     while i < marks.len() {
-        if marks[i] > 2 {
-            return false;
-        }
+        ok = ok & (marks[i] <= 2);
         i += 1;
     }
-    true
+    ok
 }
 
 // UTF-8 without NUL.
@@ -187,6 +208,9 @@ fn is_row(columns: usize, ends: &[u16], from: usize, to: usize) -> bool
 pub fn are_rows(columns: usize, tag_ends: &[u16], row_ends: &[u16]) -> bool
     ensures { λ ok. ⌜ ok ≡ areRows columns (now («tag_ends» .entry)) 0 (now («row_ends» .entry)) ⌝ }
 {
+    if tag_ends.len() == 0 {
+        return all_zero(row_ends);
+    }
     let mut from = 0;
     let mut i = 0;
     while i < row_ends.len() {

@@ -4,7 +4,7 @@ use native.Mathlib.Omega.{arith}
 use borrow.Author.Needs.{needs}
 use lib.ListN.{length}
 use Rattle.parts.specs.Parts.{isRow}
-use Rattle.parts.proofs.Steps.{Chained, chain-go, chain-no, chain-done}
+use Rattle.parts.proofs.Steps.{Chained, chain-go, chain-no, chain-done, no-rows}
 use Rattle.parts.proofs.are_rows.Statement.{statement}
 use Rattle.parts.proofs.are_rows.Tie as tie
 
@@ -13,6 +13,12 @@ Inv-loop columns tag-ends row-ends from₀ i₀ from i = Chained (isRow columns 
 
 abbrev μ-loop : tie.MeasureT-loop
 μ-loop columns tag-ends row-ends from₀ i₀ from i = length row-ends - i
+
+all-zero-requires : tie.Need-all-zero-requires Inv-loop μ-loop
+all-zero-requires c κs = search needs
+
+returns : tie.Need-returns Inv-loop μ-loop
+returns c = search no-rows
 
 loop-holds : tie.Need-loop-holds Inv-loop μ-loop
 loop-holds c = record { is = refl }
@@ -29,8 +35,8 @@ cast-to c = omega (arith, c .shared-slice-known3 .given (c .before .before .loop
 is-row-requires : tie.Need-is-row-requires Inv-loop μ-loop
 is-row-requires c κs = search needs
 
-returns : tie.Need-returns Inv-loop μ-loop
-returns c = search chain-no
+returns-2 : tie.Need-returns-2 Inv-loop μ-loop
+returns-2 c = search chain-no
 
 add-i : tie.Need-add-i Inv-loop μ-loop
 add-i c = search needs
@@ -41,8 +47,8 @@ loop-less c = search needs
 loop-again : tie.Need-loop-again Inv-loop μ-loop
 loop-again c = search chain-go
 
-returns-2 : tie.Need-returns-2 Inv-loop μ-loop
-returns-2 c = search chain-done
+returns-3 : tie.Need-returns-3 Inv-loop μ-loop
+returns-3 c = search chain-done
 
 pub are-rows-spec : {M : Type 1} → statement M
 are-rows-spec =
@@ -50,13 +56,15 @@ are-rows-spec =
     (tie.spec
     Inv-loop
     μ-loop
+    all-zero-requires
+    returns
     loop-holds
     mul-to
     shared-slice-read-to
     cast-to
     is-row-requires
-    returns
+    returns-2
     add-i
     loop-less
     loop-again
-    returns-2)
+    returns-3)
