@@ -8,6 +8,8 @@ use borrow.Author.Tests.{lt-ltb, le-ltb}
 use lib.ListN.{length}
 use Rattle.laws.specs.If.{if_then_else_, if-true, if-false}
 use Rattle.escape.specs.Wrote.{Lined}
+use Rattle.pieces.specs.Pieces.{shortOf}
+use Rattle.pieces.proofs.Room.{short-none, short-some}
 use Rattle.sentence.specs.Sentence.{Sentence}
 use Rattle.sentence.specs.Reading.{Form, raw, tokenized, partial}
 use Rattle.sentence.specs.Writing.{written}
@@ -17,16 +19,21 @@ use Rattle.passage.specs.Through.{writing}
 use Rattle.passage.specs.declared.Converted.{Converted}
 use Rattle.passage.specs.declared.Converted.the-variants.{Wrote, Refused}
 
-module _ (g : Form) (s : Sentence) {out : List ℕ} {n : ℕ} (e : n ≡ length (written g s)) where
-  pub writing-short : length out < n → Converts (λ (c : Converted). c) (writing g (length out) s) 0 out (Refused (refusal 12 n)) out
+-- n is the length that is lacking
+module _ (g : Form) (s : Sentence) (out : List ℕ) {n : ℕ} (e : n ≡ shortOf (length out) (length (written g s))) where
+  pub writing-short : 0 < n → Converts (λ (c : Converted). c) (writing g (length out) s) 0 out (Refused (refusal 12 n)) out
   unfolding writing verdict answerOf outputOf
   writing-short h =
-      rw (if-true _ _ _ (lt-ltb (length out) (length (written g s)) (rw e at h)), e) (record { answer = refl; output = refl })
+      let k = short-some (length out) (length (written g s)) e h in
+      rw (if-true _ _ _ (lt-ltb (length out) (length (written g s)) (k .1)), k .0) (record { answer = refl; output = refl })
 
-  pub writing-done : {end : List ℕ} {m : ℕ} → n ≤ length out → Lined (written g s) out end m → Converts (λ (c : Converted). c) (writing g (length out) s) 0 out (Wrote m) end
+  pub writing-room : n ≤ 0 → length (written g s) ≤ length out
+  writing-room h = short-none (length out) (length (written g s)) e h
+
+  pub writing-done : {end : List ℕ} {m : ℕ} → n ≤ 0 → Lined (written g s) out end m → Converts (λ (c : Converted). c) (writing g (length out) s) 0 out (Wrote m) end
   unfolding writing verdict answerOf outputOf
   writing-done h l =
-      rw (if-false _ _ _ (le-ltb (length out) (length (written g s)) (rw e at h)))
+      rw (if-false _ _ _ (le-ltb (length out) (length (written g s)) (writing-room h)))
       (record { answer = ap Wrote (l .length-is ∙ sym (zero-add _)); output = l .out-is })
 
 -- ---- the form of a number

@@ -42,6 +42,35 @@ fn short(reader: u32, writer: u32, line: &[u8], out: &mut [u8]) -> Converted
     )
 }
 
+// A line of at most 512 bytes.
+fn middle(reader: u32, writer: u32, line: &[u8], out: &mut [u8]) -> Converted
+    requires { ⌜ (writer ≡ 0 → ⊥) × (length (now line) ≤ 512) ⌝ }
+    ensures { λ r. ⌜ Converts (λ (c : Converted). c) (Between·between false false (formOf reader) (formOf writer) (length (now (out .entry))) (now (line .entry))) 0 (now (out .entry)) r (now (out .exit)) ⌝ }
+{
+    let mut text = [0u8; 512];
+    let mut types = [0u8; 512];
+    let mut boundaries = [0u8; 512];
+    let mut char_pos = [0u16; 513];
+    let mut byte_pos = [0u16; 513];
+    let mut row_ends = [0u16; 512];
+    let mut tag_ends = [0u16; 512];
+    let mut tag_bytes = [0u8; 512];
+    through(
+        reader,
+        writer,
+        line,
+        out,
+        &mut text,
+        &mut types,
+        &mut boundaries,
+        &mut char_pos,
+        &mut byte_pos,
+        &mut row_ends,
+        &mut tag_ends,
+        &mut tag_bytes,
+    )
+}
+
 // A line of at most 4,096 bytes.
 fn long(reader: u32, writer: u32, line: &[u8], out: &mut [u8]) -> Converted
     requires { ⌜ (writer ≡ 0 → ⊥) × (length (now line) ≤ 4096) ⌝ }
@@ -78,6 +107,9 @@ pub fn between(reader: u32, writer: u32, line: &[u8], out: &mut [u8]) -> Convert
 {
     if line.len() <= 256 {
         return short(reader, writer, line, out);
+    }
+    if line.len() <= 512 {
+        return middle(reader, writer, line, out);
     }
     if line.len() <= 4096 {
         return long(reader, writer, line, out);

@@ -1,11 +1,11 @@
 // A sentence written from the buffers that hold it, where the output has room for its line.
 use crate::Converted;
 use partial::given::partial_into;
-use partial::given::partial_len;
+use partial::given::partial_short;
 use sentence::Refusal;
 use sheet::Record;
 use tokenized::given::tokenized_into;
-use tokenized::given::tokenized_len;
+use tokenized::given::tokenized_short;
 ghost use mathlib.Core.Path.{_≡_};
 ghost use lib.ListN.{length};
 ghost use Rattle.sentence.specs.Reading.{tokenized, partial};
@@ -29,7 +29,7 @@ fn tokenized_as(
     requires { ⌜ Sheet r (buffers (now text) (now types) (now boundaries) (now «char_pos») (now «byte_pos») (now «row_ends») (now «tag_ends») (now «tag_bytes»)) ⌝ }
     ensures { λ a. ⌜ Converts (λ (c : Converted). c) (writing tokenized (length (now (out .entry))) (spell r (buffers (now (text .entry)) (now (types .entry)) (now (boundaries .entry)) (now («char_pos» .entry)) (now («byte_pos» .entry)) (now («row_ends» .entry)) (now («tag_ends» .entry)) (now («tag_bytes» .entry))))) 0 (now (out .entry)) a (now (out .exit)) ⌝ }
 {
-    let needed = tokenized_len(
+    let needed = tokenized_short(
         r,
         text,
         types,
@@ -39,8 +39,9 @@ fn tokenized_as(
         row_ends,
         tag_ends,
         tag_bytes,
+        out.len(),
     );
-    if out.len() < needed {
+    if needed > 0 {
         return Converted::Refused(Refusal {
             number: 12,
             place: needed,
@@ -77,7 +78,7 @@ fn partial_as(
     requires { ⌜ Sheet r (buffers (now text) (now types) (now boundaries) (now «char_pos») (now «byte_pos») (now «row_ends») (now «tag_ends») (now «tag_bytes»)) ⌝ }
     ensures { λ a. ⌜ Converts (λ (c : Converted). c) (writing partial (length (now (out .entry))) (spell r (buffers (now (text .entry)) (now (types .entry)) (now (boundaries .entry)) (now («char_pos» .entry)) (now («byte_pos» .entry)) (now («row_ends» .entry)) (now («tag_ends» .entry)) (now («tag_bytes» .entry))))) 0 (now (out .entry)) a (now (out .exit)) ⌝ }
 {
-    let needed = partial_len(
+    let needed = partial_short(
         r,
         text,
         types,
@@ -87,8 +88,9 @@ fn partial_as(
         row_ends,
         tag_ends,
         tag_bytes,
+        out.len(),
     );
-    if out.len() < needed {
+    if needed > 0 {
         return Converted::Refused(Refusal {
             number: 12,
             place: needed,

@@ -1,17 +1,17 @@
 -- `passage::given::writing::tokenized_as` meets its contract: the line is written where it fits, and refused with 12 else. Assumes nothing.
-use Rattle.passage.proofs.Written.{writing-short, writing-done}
+use Rattle.passage.proofs.Written.{writing-short, writing-room, writing-done}
 use borrow.Author.Needs.{needs}
 use Rattle.passage.proofs.given.writing.tokenized_as.Statement.{statement}
 use Rattle.passage.proofs.given.writing.tokenized_as.Tie as tie
 
-tokenized-len-requires : tie.Need-tokenized-len-requires
-tokenized-len-requires c κs = search needs
+tokenized-short-requires : tie.Need-tokenized-short-requires
+tokenized-short-requires c κs = search needs
 
 returns : tie.Need-returns
 returns c = search writing-short
 
 tokenized-into-requires : tie.Need-tokenized-into-requires
-tokenized-into-requires c κs = search needs
+tokenized-into-requires c κs = search (writing-room, needs)
 
 same-length : tie.Need-same-length
 same-length c = search needs
@@ -22,4 +22,4 @@ returns-2 c = search writing-done
 pub tokenized-as-spec : {M : Type 1} → statement M
 tokenized-as-spec =
     tie.close
-    (tie.spec tokenized-len-requires returns tokenized-into-requires same-length returns-2)
+    (tie.spec tokenized-short-requires returns tokenized-into-requires same-length returns-2)
