@@ -10,7 +10,7 @@ ghost use Rattle.reader.specs.Flags.{actOf};
 ghost use Rattle.counts.specs.Counts.{Small, passes, letters, opening, grows, tallyBy, counted};
 
 // The empty tags closed since the last present one, once another tag opens.
-fn passes(tag: Open, gaps: usize) -> usize
+fn passes(tag: Open, gaps: u16) -> u16
     requires { ⌜ gaps ≤ 4096 ⌝ }
     ensures { λ r. ⌜ r ≡ passes tag gaps ⌝ }
 {
@@ -55,7 +55,7 @@ fn opens(k: Counts) -> Counts
     Counts {
         n: k.n,
         b: k.b,
-        columns: max(k.columns, tags),
+        columns: max(k.columns, tags as usize),
         k: k.k + tag.ends(),
         g: k.g,
         tags,
@@ -76,7 +76,7 @@ fn of_tag(k: Counts, len: usize) -> Counts
             n: k.n,
             b: k.b,
             columns: k.columns,
-            k: k.k + k.gaps,
+            k: k.k + k.gaps as usize,
             g: k.g + len,
             tags: k.tags,
             gaps: 0,

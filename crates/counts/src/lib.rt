@@ -13,15 +13,16 @@ pub enum Open {
 }
 
 // The characters, text bytes, columns, listed tags and tag bytes so far; of the last character the tags, and the empty ones that
-// were closed since its last present one; and the tag that is open. A present tag is listed where it ends.
+// were closed since its last present one; and the tag that is open. A present tag is listed where it ends. Tags and gaps are narrow so that the record
+// has no hole of many bytes, which would be copied with it.
 pub struct Counts {
     pub n: usize,
     pub b: usize,
     pub columns: usize,
     pub k: usize,
     pub g: usize,
-    pub tags: usize,
-    pub gaps: usize,
+    pub tags: u32,
+    pub gaps: u16,
     pub tag: Open,
 }
 

@@ -119,7 +119,7 @@ fn pass_tags(k: Counts, tag_ends: &mut [u16])
     match tag {
         Open::No => {}
         Open::Empty => {
-            repeat(k.g, k.gaps, tag_ends, k.k);
+            repeat(k.g, k.gaps as usize, tag_ends, k.k);
         }
         Open::Present => {}
     }

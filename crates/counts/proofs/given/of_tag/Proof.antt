@@ -9,17 +9,20 @@ enum-told c = search needs
 enum-told-2 : tie.Need-enum-told-2
 enum-told-2 c = search needs
 
-add-t5 : tie.Need-add-t5
-add-t5 c = search needs
+cast-t5 : tie.Need-cast-t5
+cast-t5 c = search needs
 
 add-t6 : tie.Need-add-t6
 add-t6 c = search needs
 
+add-t7 : tie.Need-add-t7
+add-t7 c = search needs
+
 enum-told-3 : tie.Need-enum-told-3
 enum-told-3 c = search needs
 
-add-t8 : tie.Need-add-t8
-add-t8 c = search needs
+add-t9 : tie.Need-add-t9
+add-t9 c = search needs
 
 returns : tie.Need-returns
 unfolding grows
@@ -36,4 +39,4 @@ returns-3 c = cc
 pub of-tag-spec : {M : Type 1} → statement M
 of-tag-spec =
     tie.close
-    (tie.spec enum-told enum-told-2 add-t5 add-t6 enum-told-3 add-t8 returns returns-2 returns-3)
+    (tie.spec enum-told enum-told-2 cast-t5 add-t6 add-t7 enum-told-3 add-t9 returns returns-2 returns-3)

@@ -11,6 +11,9 @@ enum-told c = search needs
 enum-told-2 : tie.Need-enum-told-2
 enum-told-2 c = search needs
 
+cast-repeat : tie.Need-cast-repeat
+cast-repeat c = search needs
+
 repeat-requires : tie.Need-repeat-requires
 repeat-requires c κs = (search needs, search passed-fits)
 
@@ -37,6 +40,7 @@ pass-tags-spec =
     (tie.spec
     enum-told
     enum-told-2
+    cast-repeat
     repeat-requires
     enum-told-3
     returns
