@@ -8,12 +8,13 @@ use borrow.Author.Tests.{eq-eqb, eqb-true, ne-eqb, eqb-false, le-leb, lt-leb, no
 use lib.Dec.{eqb, leb, ltb, eqb·zero-suc, eqb·suc-zero}
 use lib.ListN.{length, take, drop, getD, length-take, length-drop, replicate}
 use lib.Seq.{drop-drop}
+use Rattle.laws.specs.If.{if_then_else_}
 use Rattle.laws.specs.Put.{drop-step, drop-none}
 use Rattle.utf8.specs.declared.Decoded.{Decoded}
 use Rattle.utf8.specs.declared.Decoded.the-variants.{Char, Bad, End}
-use Rattle.utf8.specs.Utf8.{decodeAt, walk, wholes, values, scalars, validPrefix, width}
-use Rattle.utf8.proofs.Codec.{encode-decode, width-small, length-encode}
-use Rattle.utf8.proofs.Laws.{chars-char, chars-bad, chars-end}
+use Rattle.utf8.specs.Utf8.{encode, decodeAt, walk, wholes, values, scalars, validPrefix, width}
+use Rattle.utf8.proofs.Codec.{one-decoded, encode-decode, width-small, length-encode}
+use Rattle.utf8.proofs.Laws.{decode-in, chars-char, chars-bad, chars-end}
 use Rattle.types.specs.TypeOf.{typeOf}
 use Rattle.sentence.specs.Sentence.{types, starts, numbers}
 use Rattle.parts.specs.Parts.{same, zeros, noNul, isPlain, isChar, CharFits, isText, Places, areMarks, chain, isTag, present, isRow}
@@ -211,6 +212,21 @@ module _ (s : List ℕ) (at : ℕ) where
       rw (chars-char s at v n (sym p ∙ q), l, eqb-add)
       (and-swap (eqb (validPrefix (drop (at + n) s)) (length (drop (at + n) s))) (not (eqb v 0)) (noNul (scalars (drop (at + n) s))))
 
+  -- a byte 0 is NUL, and NUL a byte 0
+  plain-nul : at < length s → getD s at 0 ≡ 0 → isPlain (drop at s) ≡ false
+  plain-nul h e =
+      let q : decodeAt s at ≡ Char 0 1 = decode-in s at h ∙ rw e (one-decoded 0 _ _ _ refl) in
+      plain-char 0 1 (decodeAt s at) refl q
+
+  nul-byte : (v n : ℕ) → at < length s → decodeAt s at ≡ Char v n → v ≡ 0 → getD s at 0 ≡ 0
+  unfolding decodeAt encode width if_then_else_
+  nul-byte v n h q z =
+      let c = encode-decode (drop at s) v n q in
+      let w : n ≡ 1 = c .wide ∙ rw z in
+      let b : take 1 (drop at s) ≡ 0 ∷ [] = rw (w, z) at (c .bytes) in
+      let l : getD s at 0 ∷ [] ≡ 0 ∷ [] = rw (drop-step at s h) at b in
+      cc
+
   -- bytes that start with no character
   not-plain : at < length s → validPrefix (drop at s) ≡ 0 → isPlain (drop at s) ≡ false
   unfolding isPlain
@@ -233,11 +249,11 @@ pub record Plainly (s : List ℕ) (at : ℕ) : Type 0 where
   pub is : isPlain s ≡ isPlain (drop at s)
 
 module _ (s : List ℕ) (at : ℕ) (h : Plainly s at) where
-  pub plainly-go : (v n : ℕ) (d : Decoded) → d ≡ decodeAt s at → d ≡ Char v n → (v ≡ 0 → ⊥) → Plainly s (at + n)
-  plainly-go v n d p q o = record { is = h .is ∙ plain-char s at v n d p q ∙ rw (ne-eqb v 0 o) }
+  pub plainly-go : (v n : ℕ) (d : Decoded) → at < length s → (getD s at 0 ≡ 0 → ⊥) → d ≡ decodeAt s at → d ≡ Char v n → Plainly s (at + n)
+  plainly-go v n d l o p q = record { is = h .is ∙ plain-char s at v n d p q ∙ rw (ne-eqb v 0 (λ z. o (nul-byte s at v n l (sym p ∙ q) z))) }
 
-  pub plainly-nul : (v n : ℕ) (d : Decoded) → d ≡ decodeAt s at → d ≡ Char v n → v ≡ 0 → false ≡ isPlain s
-  plainly-nul v n d p q o = sym (h .is ∙ plain-char s at v n d p q ∙ rw (eq-eqb v 0 o))
+  pub plainly-nul : at < length s → getD s at 0 ≡ 0 → false ≡ isPlain s
+  plainly-nul l o = sym (h .is ∙ plain-nul s at l o)
 
   pub plainly-bad : (d : Decoded) → at < length s → d ≡ decodeAt s at → d ≡ Bad → false ≡ isPlain s
   plainly-bad d l p q = sym (h .is ∙ plain-bad s at d l p q)
@@ -247,6 +263,31 @@ module _ (s : List ℕ) (at : ℕ) (h : Plainly s at) where
 
   pub plainly-done : length s ≤ at → true ≡ isPlain s
   plainly-done l = sym (h .is ∙ plain-none s at l)
+
+-- ---- a character, test by test; the premises are as `is_char` has them
+module _ (v t i at n : ℕ) (ys ps qs : List ℕ) where
+  pub char-nul : v ≡ 0 → false ≡ isChar v t i at n ys ps qs
+  unfolding isChar
+  char-nul a = rw (eq-eqb v 0 a)
+
+  module _ (a : v ≡ 0 → ⊥) where
+    pub char-type : (t ≡ getD ys i 0 → ⊥) → false ≡ isChar v t i at n ys ps qs
+    unfolding isChar
+    char-type b = rw (ne-eqb v 0 a, ne-eqb t (getD ys i 0) b)
+
+    module _ (b : t ≡ getD ys i 0) where
+      pub char-start : (at ≡ getD ps i 0 → ⊥) → false ≡ isChar v t i at n ys ps qs
+      unfolding isChar
+      char-start c = rw (ne-eqb v 0 a, eq-eqb t (getD ys i 0) b, ne-eqb at (getD ps i 0) c)
+
+      module _ (c : at ≡ getD ps i 0) where
+        pub char-number : (i ≡ getD qs at 0 → ⊥) → false ≡ isChar v t i at n ys ps qs
+        unfolding isChar
+        char-number d = rw (ne-eqb v 0 a, eq-eqb t (getD ys i 0) b, eq-eqb at (getD ps i 0) c, ne-eqb i (getD qs at 0) d)
+
+        pub char-inner : (r : Bool) → i ≡ getD qs at 0 → r ≡ zeros (take (at + n - (at + 1)) (drop (at + 1) qs)) → r ≡ isChar v t i at n ys ps qs
+        unfolding isChar
+        char-inner r d e = rw (ne-eqb v 0 a, eq-eqb t (getD ys i 0) b, eq-eqb at (getD ps i 0) c, eq-eqb i (getD qs at 0) d) e
 
 -- ---- the text with its types and positions
 same-zeros : (k : ℕ) (xs ys : List ℕ) → k ≤ length ys → same (replicate k 0 ++ xs) ys ≡ (zeros (take k ys) && same xs (drop k ys))

@@ -58,11 +58,19 @@ fn is_char(
     requires { ⌜ CharFits i at len (now types) (now «char_pos») (now «byte_pos») ⌝ }
     ensures { λ ok. ⌜ ok ≡ isChar value kind i at len (now (types .entry)) (now («char_pos» .entry)) (now («byte_pos» .entry)) ⌝ }
 {
-    !(value == 0)
-        & (kind == types[i])
-        & (at == char_pos[i] as usize)
-        & (i == byte_pos[at] as usize)
-        & inner_zero(byte_pos, at, len)
+    if value == 0 {
+        return false;
+    }
+    if kind != types[i] {
+        return false;
+    }
+    if at != char_pos[i] as usize {
+        return false;
+    }
+    if i != byte_pos[at] as usize {
+        return false;
+    }
+    inner_zero(byte_pos, at, len)
 }
 
 // The text, its types and its positions, where there are as many positions as there should be.
@@ -129,11 +137,11 @@ fn is_plain(s: &[u8]) -> bool
 {
     let mut at = 0;
     while at < s.len() {
+        if s[at] == 0 {
+            return false;
+        }
         match utf8::decode(s, at) {
-            Decoded::Char { value, len } => {
-                if value == 0 {
-                    return false;
-                }
+            Decoded::Char { value: _, len } => {
                 at += len;
             }
             Decoded::Bad => {

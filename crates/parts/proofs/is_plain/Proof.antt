@@ -16,16 +16,19 @@ abbrev μ-loop : tie.MeasureT-loop
 loop-holds : tie.Need-loop-holds Inv-loop μ-loop
 loop-holds c = record { is = refl }
 
-decode-requires : tie.Need-decode-requires Inv-loop μ-loop
-decode-requires c κs = search needs
-
-enum-known-value : tie.Need-enum-known-value Inv-loop μ-loop
-enum-known-value c = search needs
+shared-slice-read-if1 : tie.Need-shared-slice-read-if1 Inv-loop μ-loop
+shared-slice-read-if1 c = search needs
 
 returns : tie.Need-returns Inv-loop μ-loop
 returns c = search plainly-nul
 
-reached : (c : tie.Else1 Inv-loop μ-loop) → Reach (c .before .before .before .before .before .before .before .before .args .s .now) (c .before .before .before .before .before .before .loop .at) (c .before .before .value .given .0 .0) (c .before .before .value .given .0 .1 .0)
+decode-requires : tie.Need-decode-requires Inv-loop μ-loop
+decode-requires c κs = search needs
+
+enum-known-len : tie.Need-enum-known-len Inv-loop μ-loop
+enum-known-len c = search needs
+
+reached : (c : tie.After-known-told Inv-loop μ-loop) → Reach (c .before .before .before .before .before .before .before .before .before .args .s .now) (c .before .before .before .before .before .before .before .loop .at) (c .before .len .given .0 .0) (c .before .len .given .0 .1 .0)
 reached c = search reach
 
 add-at : tie.Need-add-at Inv-loop μ-loop
@@ -59,9 +62,10 @@ is-plain-spec =
     Inv-loop
     μ-loop
     loop-holds
-    decode-requires
-    enum-known-value
+    shared-slice-read-if1
     returns
+    decode-requires
+    enum-known-len
     add-at
     loop-less
     loop-again
