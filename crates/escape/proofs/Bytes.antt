@@ -5,14 +5,14 @@ use mathlib.Core.Bool.{Bool, true, false}
 use mathlib.Core.List.{List, [], _∷_, _++_}
 use native.Mathlib.Omega.{arith}
 use borrow.Author.Tests.{ne-eqb}
-use lib.ListN.{length, getD, take, drop, replicate}
+use lib.ListN.{length, getD, set, take, drop, replicate}
 use Rattle.laws.specs.Put.{left-step, left-none}
 use Rattle.laws.specs.If.{if_then_else_}
 use Rattle.sentence.specs.Sentence.{none}
 use Rattle.sentence.specs.Reading.{Form, Kind, mark, slash, back, plain, kind}
 use Rattle.sentence.specs.Writing.{escapeAs, escape}
 use Rattle.escape.specs.Escape.{formOf, meant}
-use Rattle.escape.specs.Wrote.{Writing, write-fits}
+use Rattle.escape.specs.Wrote.{Wrote, Writing, write-fits}
 
 as-meant : (k : Kind) (b : ℕ) → meant k ≡ true → escapeAs k b ≡ 92 ∷ b ∷ []
 unfolding escapeAs meant
@@ -139,3 +139,27 @@ pub repeat-room : {out₀ all d : List ℕ} {from at : ℕ} (n b : ℕ) → Writ
 repeat-room n b w h = omega (arith, write-fits w (b ∷ []) _ (repeat-step n b h))
 
 pub ruleset repeats = (repeat-step, repeat-none)
+
+-- three bytes of a slice
+three-left : (s : List ℕ) (i : ℕ) → i + 3 ≤ length s → drop i (take (i + 3) s) ≡ getD s i 0 ∷ getD s (i + 1) 0 ∷ getD s (i + 2) 0 ∷ []
+three-left s i h =
+    let k : i + 1 + 1 ≡ i + 2 = omega arith in
+    let l : i + 2 + 1 ≡ i + 3 = omega arith in
+    left-step (i + 3) i s (omega arith) h
+    ∙ ap (λ (t : List ℕ). getD s i 0 ∷ t) (left-step (i + 3) (i + 1) s (omega arith) h
+    ∙ rw k (ap (λ (t : List ℕ). getD s (i + 1) 0 ∷ t) (left-step (i + 3) (i + 2) s (omega arith) h ∙ rw (l, left-none (i + 3) (i + 3) s (omega arith) (omega arith)))))
+
+pub wrote-three : (s d : List ℕ) (i at : ℕ) → i + 3 ≤ length s
+    → Wrote d at (drop i (take (i + 3) s)) (set (set (set d at (getD s i 0)) (at + 1) (getD s (i + 1) 0)) (at + 2) (getD s (i + 2) 0)) (at + 3)
+wrote-three s d i at h =
+    let k : at + 1 + 1 ≡ at + 2 = omega arith in
+    rw (three-left s i h) (record { bytes = rw k; end = refl })
+
+pub three-fits : (s : List ℕ) (i to : ℕ) → to ≡ i + 3 → to ≤ length s → i + 3 ≤ length s
+three-fits s i to e h = omega arith
+
+pub three-room : (s d : List ℕ) (i to at : ℕ) → to ≡ i + 3 → to ≤ length s → at + length (drop i (take to s)) ≤ length d → at + 3 ≤ length d
+three-room s d i to at e h r = rw (e, three-left s i (three-fits s i to e h)) at r
+
+pub three-is : (s d : List ℕ) (i to at : ℕ) (o : List ℕ) (r : ℕ) → to ≡ i + 3 → Wrote d at (drop i (take (i + 3) s)) o r → Wrote d at (drop i (take to s)) o r
+three-is s d i to at o r e w = rw e w

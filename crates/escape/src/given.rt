@@ -79,11 +79,25 @@ pub fn copy_escaped(
     n
 }
 
+// Three bytes of `src`, the commonest length of a character.
+fn three(src: &[u8], from: usize, out: &mut [u8], at: usize) -> usize
+    requires { ⌜ (from + 3 ≤ length (now src)) × (at + 3 ≤ length (now out)) ⌝ }
+    ensures { λ r. ⌜ Wrote (now (out .entry)) at (drop from (take (from + 3) (now (src .entry)))) (now (out .exit)) r ⌝ }
+{
+    out[at] = src[from];
+    out[at + 1] = src[from + 1];
+    out[at + 2] = src[from + 2];
+    at + 3
+}
+
 // A part of `src` as it stands.
 pub fn copy(src: &[u8], from: usize, to: usize, out: &mut [u8], at: usize) -> usize
     requires { ⌜ (from ≤ to) × (to ≤ length (now src)) × (at + length (drop from (take to (now src))) ≤ length (now out)) ⌝ }
     ensures { λ r. ⌜ Wrote (now (out .entry)) at (drop from (take to (now (src .entry)))) (now (out .exit)) r ⌝ }
 {
+    if to == from + 3 {
+        return three(src, from, out, at);
+    }
     let mut i = from;
     let mut n = at;
     while i < to {

@@ -4,7 +4,7 @@ use lib.ListN.{take, drop}
 use borrow.Author.Needs.{needs}
 use Rattle.laws.specs.Put.{left-step, left-none}
 use Rattle.escape.specs.Wrote.{Writing, writes}
-use Rattle.escape.proofs.Bytes.{copy-room}
+use Rattle.escape.proofs.Bytes.{copy-room, three-fits, three-room, three-is}
 use Rattle.escape.proofs.given.copy.Statement.{statement}
 use Rattle.escape.proofs.given.copy.Tie as tie
 
@@ -15,6 +15,18 @@ Inv-loop src from to out₀ at i₀ n₀ out i n =
 
 abbrev μ-loop : tie.MeasureT-loop
 μ-loop src from to out₀ at i₀ n₀ out i n = to - i
+
+add-if1 : tie.Need-add-if1 Inv-loop μ-loop
+add-if1 c = search needs
+
+three-requires : tie.Need-three-requires Inv-loop μ-loop
+three-requires c κs = (search three-fits, search three-room)
+
+same-length : tie.Need-same-length Inv-loop μ-loop
+same-length c = search needs
+
+returns : tie.Need-returns Inv-loop μ-loop
+returns c = search three-is
 
 loop-holds : tie.Need-loop-holds Inv-loop μ-loop
 loop-holds c = search (writes, left-step, left-none, needs)
@@ -37,11 +49,11 @@ loop-less c = search (writes, left-step, left-none, needs)
 loop-again : tie.Need-loop-again Inv-loop μ-loop
 loop-again c = search (writes, left-step, left-none, needs)
 
-same-length : tie.Need-same-length Inv-loop μ-loop
-same-length c = search (writes, left-step, left-none, needs)
+same-length-2 : tie.Need-same-length-2 Inv-loop μ-loop
+same-length-2 c = search (writes, left-step, left-none, needs)
 
-returns : tie.Need-returns Inv-loop μ-loop
-returns c = search (writes, left-step, left-none, needs)
+returns-2 : tie.Need-returns-2 Inv-loop μ-loop
+returns-2 c = search (writes, left-step, left-none, needs)
 
 pub copy-spec : {M : Type 1} → statement M
 copy-spec =
@@ -49,6 +61,10 @@ copy-spec =
     (tie.spec
     Inv-loop
     μ-loop
+    add-if1
+    three-requires
+    same-length
+    returns
     loop-holds
     shared-slice-read-out
     slice-write-out
@@ -56,5 +72,5 @@ copy-spec =
     add-i
     loop-less
     loop-again
-    same-length
-    returns)
+    same-length-2
+    returns-2)
