@@ -1,5 +1,6 @@
 // Asks the public functions what the questions of the input ask: each line is written back, a question with its answer.
 // A question is fields between spaces, the first a letter, its kind. A line that starts with # is no question.
+mod calls;
 mod render;
 mod rooms;
 mod sheets;
@@ -45,10 +46,7 @@ fn answer(line: &[u8], out: &mut [u8], sink: Sink) -> Sink {
     if kind == b'K' {
         return kind_case(line, out, sink);
     }
-    if kind == b'M' {
-        return rooms::ask(line, out, sink);
-    }
-    if kind == b'U' {
+    if (kind == b'M') | (kind == b'U') {
         return rooms::ask(line, out, sink);
     }
     sheets::ask(line, out, sink)

@@ -1,4 +1,6 @@
 // The fields of an answer, put together from a sheet by the public functions.
+use crate::calls;
+use crate::calls::Found;
 use casework::Sink;
 use casework::part;
 use casework::part16;
@@ -22,12 +24,57 @@ pub fn refusal(f: Refusal, out: &mut [u8], sink: Sink) -> Sink {
     told.counts(out, &[f.number as u64, f.place as u64])
 }
 
+// A number that a call answered.
+pub fn number(n: Number, out: &mut [u8], sink: Sink) -> Sink {
+    match n {
+        Number::Is(value) => sink.text(out, b"= ").number(out, value as u64),
+        Number::Refused(f) => refusal(f, out, sink),
+    }
+}
+
 // A part of some bytes, or a dash for an absent one.
-pub fn bytes_of(bytes: &[u8], p: Part, out: &mut [u8], sink: Sink) -> Sink {
+fn bytes_of(bytes: &[u8], p: Part, out: &mut [u8], sink: Sink) -> Sink {
     match p {
         Part::Bytes { start, end } => sink.hex(out, part(bytes, start, end)),
         Part::Absent => sink.put(out, b'-'),
         Part::Refused(f) => refusal(f, out, sink),
+    }
+}
+
+// A part that a call answered.
+fn part_told(bytes: &[u8], p: Part, out: &mut [u8], sink: Sink) -> Sink {
+    match p {
+        Part::Refused(f) => refusal(f, out, sink),
+        Part::Bytes { start, end } => sink.text(out, b"= ").hex(out, part(bytes, start, end)),
+        Part::Absent => sink.text(out, b"= -"),
+    }
+}
+
+// A token: its start and its end.
+pub fn token(start: u16, end: u16, out: &mut [u8], sink: Sink) -> Sink {
+    let begun = sink.number(out, start as u64).put(out, b'-');
+    begun.number(out, end as u64)
+}
+
+// A step of the token cursor: the token or a dot, and where the cursor is after it.
+fn step_told(s: Step, out: &mut [u8], sink: Sink) -> Sink {
+    let told = sink.text(out, b"= ");
+    match s {
+        Step::Serves(t) => token(t.start, t.end, out, told).number_field(out, t.end as u64),
+        Step::Done { at } => told.put(out, b'.').number_field(out, at as u64),
+    }
+}
+
+// What a look-up found.
+pub fn found(f: Found, text: &[u8], tag_bytes: &[u8], out: &mut [u8], sink: Sink) -> Sink {
+    match f {
+        Found::Number(n) => number(n, out, sink),
+        Found::Surface(p) => part_told(text, p, out, sink),
+        Found::Tag(p) => part_told(tag_bytes, p, out, sink),
+        Found::Step(next) => match next {
+            Next::Is(s) => step_told(s, out, sink),
+            Next::Refused(f) => refusal(f, out, sink),
+        },
     }
 }
 
@@ -196,12 +243,6 @@ fn rows(
     s
 }
 
-// A token: its start and its end.
-pub fn token(start: u16, end: u16, out: &mut [u8], sink: Sink) -> Sink {
-    let begun = sink.number(out, start as u64).put(out, b'-');
-    begun.number(out, end as u64)
-}
-
 // All tokens, by a cursor that starts at 0.
 fn tokens_of(
     r: Record,
@@ -261,8 +302,9 @@ fn written(n: Number, room: &[u8], out: &mut [u8], sink: Sink) -> Sink {
     }
 }
 
-// Both written lines.
-fn lines(
+// The line of a writer.
+fn line_told(
+    writer: u8,
     r: Record,
     text: &[u8],
     types: &[u8],
@@ -276,7 +318,8 @@ fn lines(
     sink: Sink,
 ) -> Sink {
     let mut room = [0u8; ROOM];
-    let first = write::write_tokenized_text(
+    let n = calls::write_line(
+        writer,
         r,
         text,
         types,
@@ -288,20 +331,7 @@ fn lines(
         tag_bytes,
         &mut room,
     );
-    let told = written(first, &room, out, sink);
-    let second = write::write_partial_annotation_text(
-        r,
-        text,
-        types,
-        boundaries,
-        char_pos,
-        byte_pos,
-        row_ends,
-        tag_ends,
-        tag_bytes,
-        &mut room,
-    );
-    written(second, &room, out, told)
+    written(n, &room, out, sink)
 }
 
 // Text, types and boundaries.
@@ -325,7 +355,7 @@ fn positions(r: Record, char_pos: &[u16], byte_pos: &[u16], out: &mut [u8], sink
     s2.number_field(out, r.columns as u64)
 }
 
-// The padded table, the tokens and both written lines.
+// The padded table and the tokens.
 fn labels(
     r: Record,
     text: &[u8],
@@ -354,7 +384,7 @@ fn labels(
         out,
         sink,
     );
-    let cut = tokens_of(
+    tokens_of(
         r,
         text,
         types,
@@ -366,19 +396,6 @@ fn labels(
         tag_bytes,
         out,
         listed,
-    );
-    lines(
-        r,
-        text,
-        types,
-        boundaries,
-        char_pos,
-        byte_pos,
-        row_ends,
-        tag_ends,
-        tag_bytes,
-        out,
-        cut,
     )
 }
 
@@ -424,6 +441,63 @@ fn labels_checked(
     )
 }
 
+// The padded table, the tokens and both written lines.
+fn ended(
+    r: Record,
+    text: &[u8],
+    types: &[u8],
+    boundaries: &[u8],
+    char_pos: &[u16],
+    byte_pos: &[u16],
+    row_ends: &[u16],
+    tag_ends: &[u16],
+    tag_bytes: &[u8],
+    out: &mut [u8],
+    sink: Sink,
+) -> Sink {
+    let labelled = labels_checked(
+        r,
+        text,
+        types,
+        boundaries,
+        char_pos,
+        byte_pos,
+        row_ends,
+        tag_ends,
+        tag_bytes,
+        out,
+        sink,
+    );
+    let told = line_told(
+        b'T',
+        r,
+        text,
+        types,
+        boundaries,
+        char_pos,
+        byte_pos,
+        row_ends,
+        tag_ends,
+        tag_bytes,
+        out,
+        labelled,
+    );
+    line_told(
+        b'P',
+        r,
+        text,
+        types,
+        boundaries,
+        char_pos,
+        byte_pos,
+        row_ends,
+        tag_ends,
+        tag_bytes,
+        out,
+        told,
+    )
+}
+
 // The ten fields.
 pub fn fields(
     r: Record,
@@ -440,7 +514,7 @@ pub fn fields(
 ) -> Sink {
     let begun = characters(r, text, types, boundaries, out, sink);
     let placed = positions(r, char_pos, byte_pos, out, begun);
-    labels_checked(
+    ended(
         r,
         text,
         types,
