@@ -19,61 +19,60 @@ ghost use Rattle.sheet.specs.Layout.{buffers, Sheet};
 const ROOM: usize = 131072;
 
 // A refusal: its number and its place.
-pub fn refusal(f: Refusal, out: &mut [u8], sink: Sink) -> Sink {
-    let told = sink.text(out, b"! ");
-    told.counts(out, &[f.number as u64, f.place as u64])
+pub fn refusal(f: Refusal, sink: Sink) -> Sink {
+    sink.refused(f.number as u64, f.place as u64)
 }
 
 // A number that a call answered.
-pub fn number(n: Number, out: &mut [u8], sink: Sink) -> Sink {
+pub fn number(n: Number, sink: Sink) -> Sink {
     match n {
-        Number::Is(value) => sink.text(out, b"= ").number(out, value as u64),
-        Number::Refused(f) => refusal(f, out, sink),
+        Number::Is(value) => sink.yes().number(value as u64),
+        Number::Refused(f) => refusal(f, sink),
     }
 }
 
 // A part of some bytes, or a dash for an absent one.
-fn bytes_of(bytes: &[u8], p: Part, out: &mut [u8], sink: Sink) -> Sink {
+fn bytes_of(bytes: &[u8], p: Part, sink: Sink) -> Sink {
     match p {
-        Part::Bytes { start, end } => sink.hex(out, part(bytes, start, end)),
-        Part::Absent => sink.put(out, b'-'),
-        Part::Refused(f) => refusal(f, out, sink),
+        Part::Bytes { start, end } => sink.hex(part(bytes, start, end)),
+        Part::Absent => sink.put(b'-'),
+        Part::Refused(f) => refusal(f, sink),
     }
 }
 
 // A part that a call answered.
-fn part_told(bytes: &[u8], p: Part, out: &mut [u8], sink: Sink) -> Sink {
+fn part_told(bytes: &[u8], p: Part, sink: Sink) -> Sink {
     match p {
-        Part::Refused(f) => refusal(f, out, sink),
-        Part::Bytes { start, end } => sink.text(out, b"= ").hex(out, part(bytes, start, end)),
-        Part::Absent => sink.text(out, b"= -"),
+        Part::Refused(f) => refusal(f, sink),
+        Part::Bytes { start, end } => sink.yes().hex(part(bytes, start, end)),
+        Part::Absent => sink.yes().put(b'-'),
     }
 }
 
 // A token: its start and its end.
-pub fn token(start: u16, end: u16, out: &mut [u8], sink: Sink) -> Sink {
-    let begun = sink.number(out, start as u64).put(out, b'-');
-    begun.number(out, end as u64)
+pub fn token(start: u16, end: u16, sink: Sink) -> Sink {
+    let begun = sink.number(start as u64).put(b'-');
+    begun.number(end as u64)
 }
 
 // A step of the token cursor: the token or a dot, and where the cursor is after it.
-fn step_told(s: Step, out: &mut [u8], sink: Sink) -> Sink {
-    let told = sink.text(out, b"= ");
+fn step_told(s: Step, sink: Sink) -> Sink {
+    let told = sink.yes();
     match s {
-        Step::Serves(t) => token(t.start, t.end, out, told).number_field(out, t.end as u64),
-        Step::Done { at } => told.put(out, b'.').number_field(out, at as u64),
+        Step::Serves(t) => token(t.start, t.end, told).number_field(t.end as u64),
+        Step::Done { at } => told.put(b'.').number_field(at as u64),
     }
 }
 
 // What a look-up found.
-pub fn found(f: Found, text: &[u8], tag_bytes: &[u8], out: &mut [u8], sink: Sink) -> Sink {
+pub fn found(f: Found, text: &[u8], tag_bytes: &[u8], sink: Sink) -> Sink {
     match f {
-        Found::Number(n) => number(n, out, sink),
-        Found::Surface(p) => part_told(text, p, out, sink),
-        Found::Tag(p) => part_told(tag_bytes, p, out, sink),
+        Found::Number(n) => number(n, sink),
+        Found::Surface(p) => part_told(text, p, sink),
+        Found::Tag(p) => part_told(tag_bytes, p, sink),
         Found::Step(next) => match next {
-            Next::Is(s) => step_told(s, out, sink),
-            Next::Refused(f) => refusal(f, out, sink),
+            Next::Is(s) => step_told(s, sink),
+            Next::Refused(f) => refusal(f, sink),
         },
     }
 }
@@ -173,7 +172,6 @@ fn row(
     tag_ends: &[u16],
     tag_bytes: &[u8],
     i: usize,
-    out: &mut [u8],
     sink: Sink,
 ) -> Sink
     requires { ⌜ Sheet r (buffers (now text) (now types) (now boundaries) (now «char_pos») (now «byte_pos») (now «row_ends») (now «tag_ends») (now «tag_bytes»)) × (i < r .n) ⌝ }
@@ -181,7 +179,7 @@ fn row(
     let mut s = sink;
     let mut j = 0;
     while j < r.columns {
-        s = s.joint(out, j, b',');
+        s = s.joint(j, b',');
         let found = cell(
             r,
             text,
@@ -195,7 +193,7 @@ fn row(
             i,
             j,
         );
-        s = bytes_of(tag_bytes, found, out, s);
+        s = bytes_of(tag_bytes, found, s);
         j += 1;
     }
     s
@@ -212,18 +210,17 @@ fn rows(
     row_ends: &[u16],
     tag_ends: &[u16],
     tag_bytes: &[u8],
-    out: &mut [u8],
     sink: Sink,
 ) -> Sink
     requires { ⌜ Sheet r (buffers (now text) (now types) (now boundaries) (now «char_pos») (now «byte_pos») (now «row_ends») (now «tag_ends») (now «tag_bytes»)) ⌝ }
 {
-    let mut s = sink.put(out, b' ');
+    let mut s = sink.put(b' ');
     if r.columns == 0 {
-        return s.put(out, b'.');
+        return s.put(b'.');
     }
     let mut i = 0;
     while i < r.n {
-        s = s.joint(out, i, b';');
+        s = s.joint(i, b';');
         s = row(
             r,
             text,
@@ -235,7 +232,6 @@ fn rows(
             tag_ends,
             tag_bytes,
             i,
-            out,
             s,
         );
         i += 1;
@@ -254,12 +250,11 @@ fn tokens_of(
     row_ends: &[u16],
     tag_ends: &[u16],
     tag_bytes: &[u8],
-    out: &mut [u8],
     sink: Sink,
 ) -> Sink
     requires { ⌜ Sheet r (buffers (now text) (now types) (now boundaries) (now «char_pos») (now «byte_pos») (now «row_ends») (now «tag_ends») (now «tag_bytes»)) ⌝ }
 {
-    let mut s = sink.put(out, b' ');
+    let mut s = sink.put(b' ');
     let mut p = 0;
     let mut i = 0;
     while i < r.n {
@@ -277,17 +272,17 @@ fn tokens_of(
         ) {
             Next::Is(step) => match step {
                 Step::Serves(t) => {
-                    s = s.joint(out, i, b',');
-                    s = token(t.start, t.end, out, s);
+                    s = s.joint(i, b',');
+                    s = token(t.start, t.end, s);
                     p = t.end as usize;
                     i += 1;
                 }
                 Step::Done { at: _ } => {
-                    return s.dot(out, i);
+                    return s.dot(i);
                 }
             },
             Next::Refused(f) => {
-                return refusal(f, out, s);
+                return refusal(f, s);
             }
         }
     }
@@ -295,10 +290,10 @@ fn tokens_of(
 }
 
 // A written line, which stands in its room.
-fn written(n: Number, room: &[u8], out: &mut [u8], sink: Sink) -> Sink {
+fn written(n: Number, room: &[u8], sink: Sink) -> Sink {
     match n {
-        Number::Is(length) => sink.hex_field(out, part(room, 0, length)),
-        Number::Refused(f) => refusal(f, out, sink),
+        Number::Is(length) => sink.hex_field(part(room, 0, length)),
+        Number::Refused(f) => refusal(f, sink),
     }
 }
 
@@ -314,7 +309,6 @@ fn line_told(
     row_ends: &[u16],
     tag_ends: &[u16],
     tag_bytes: &[u8],
-    out: &mut [u8],
     sink: Sink,
 ) -> Sink {
     let mut room = [0u8; ROOM];
@@ -331,28 +325,21 @@ fn line_told(
         tag_bytes,
         &mut room,
     );
-    written(n, &room, out, sink)
+    written(n, &room, sink)
 }
 
 // Text, types and boundaries.
-fn characters(
-    r: Record,
-    text: &[u8],
-    types: &[u8],
-    boundaries: &[u8],
-    out: &mut [u8],
-    sink: Sink,
-) -> Sink {
-    let s1 = sink.hex(out, part(text, 0, r.b));
-    let s2 = s1.digits_field(out, part(types, 0, r.n));
-    s2.digits_field(out, part(boundaries, 0, wrapping_sub_usize(r.n, 1)))
+fn characters(r: Record, text: &[u8], types: &[u8], boundaries: &[u8], sink: Sink) -> Sink {
+    let s1 = sink.hex(part(text, 0, r.b));
+    let s2 = s1.digits_field(part(types, 0, r.n));
+    s2.digits_field(part(boundaries, 0, wrapping_sub_usize(r.n, 1)))
 }
 
 // Both position maps, and the columns.
-fn positions(r: Record, char_pos: &[u16], byte_pos: &[u16], out: &mut [u8], sink: Sink) -> Sink {
-    let s1 = sink.numbers_field(out, part16(char_pos, 0, wrapping_add_usize(r.n, 1)));
-    let s2 = s1.numbers_field(out, part16(byte_pos, 0, wrapping_add_usize(r.b, 1)));
-    s2.number_field(out, r.columns as u64)
+fn positions(r: Record, char_pos: &[u16], byte_pos: &[u16], sink: Sink) -> Sink {
+    let s1 = sink.numbers_field(part16(char_pos, 0, wrapping_add_usize(r.n, 1)));
+    let s2 = s1.numbers_field(part16(byte_pos, 0, wrapping_add_usize(r.b, 1)));
+    s2.number_field(r.columns as u64)
 }
 
 // The padded table and the tokens.
@@ -366,7 +353,6 @@ fn labels(
     row_ends: &[u16],
     tag_ends: &[u16],
     tag_bytes: &[u8],
-    out: &mut [u8],
     sink: Sink,
 ) -> Sink
     requires { ⌜ Sheet r (buffers (now text) (now types) (now boundaries) (now «char_pos») (now «byte_pos») (now «row_ends») (now «tag_ends») (now «tag_bytes»)) ⌝ }
@@ -381,7 +367,6 @@ fn labels(
         row_ends,
         tag_ends,
         tag_bytes,
-        out,
         sink,
     );
     tokens_of(
@@ -394,7 +379,6 @@ fn labels(
         row_ends,
         tag_ends,
         tag_bytes,
-        out,
         listed,
     )
 }
@@ -410,7 +394,6 @@ fn labels_checked(
     row_ends: &[u16],
     tag_ends: &[u16],
     tag_bytes: &[u8],
-    out: &mut [u8],
     sink: Sink,
 ) -> Sink {
     if !sheet::check(
@@ -424,7 +407,7 @@ fn labels_checked(
         tag_ends,
         tag_bytes,
     ) {
-        return sink.text(out, b" ! 13 0");
+        return sink.put(b' ').refused(13, 0);
     }
     labels(
         r,
@@ -436,7 +419,6 @@ fn labels_checked(
         row_ends,
         tag_ends,
         tag_bytes,
-        out,
         sink,
     )
 }
@@ -452,7 +434,6 @@ fn ended(
     row_ends: &[u16],
     tag_ends: &[u16],
     tag_bytes: &[u8],
-    out: &mut [u8],
     sink: Sink,
 ) -> Sink {
     let labelled = labels_checked(
@@ -465,7 +446,6 @@ fn ended(
         row_ends,
         tag_ends,
         tag_bytes,
-        out,
         sink,
     );
     let told = line_told(
@@ -479,7 +459,6 @@ fn ended(
         row_ends,
         tag_ends,
         tag_bytes,
-        out,
         labelled,
     );
     line_told(
@@ -493,7 +472,6 @@ fn ended(
         row_ends,
         tag_ends,
         tag_bytes,
-        out,
         told,
     )
 }
@@ -509,11 +487,10 @@ pub fn fields(
     row_ends: &[u16],
     tag_ends: &[u16],
     tag_bytes: &[u8],
-    out: &mut [u8],
     sink: Sink,
 ) -> Sink {
-    let begun = characters(r, text, types, boundaries, out, sink);
-    let placed = positions(r, char_pos, byte_pos, out, begun);
+    let begun = characters(r, text, types, boundaries, sink);
+    let placed = positions(r, char_pos, byte_pos, begun);
     ended(
         r,
         text,
@@ -524,7 +501,6 @@ pub fn fields(
         row_ends,
         tag_ends,
         tag_bytes,
-        out,
         placed,
     )
 }

@@ -14,57 +14,53 @@ use casework::repeated;
 use sheet::Answer;
 
 // A record's numbers, or a refusal.
-fn told(a: Answer, out: &mut [u8], sink: Sink) -> Sink {
+fn told(a: Answer, sink: Sink) -> Sink {
     match a {
         Answer::Sentence(r) => {
-            let begun = sink.text(out, b"= ");
-            begun.counts(
-                out,
-                &[
-                    r.n as u64,
-                    r.b as u64,
-                    r.columns as u64,
-                    r.k as u64,
-                    r.g as u64,
-                ],
-            )
+            let begun = sink.put(b'=')
+                .number_field(r.n as u64)
+                .number_field(r.b as u64);
+            begun
+                .number_field(r.columns as u64)
+                .number_field(r.k as u64)
+                .number_field(r.g as u64)
         }
-        Answer::Refused(f) => render::refusal(f, out, sink),
+        Answer::Refused(f) => render::refusal(f, sink),
     }
 }
 
 // The first so many bytes of a buffer.
-fn bytes(buffer: &[u8; MOST], n: usize, out: &mut [u8], sink: Sink) -> Sink {
-    sink.hex_field(out, part(buffer, 0, n))
+fn bytes(buffer: &[u8; MOST], n: usize, sink: Sink) -> Sink {
+    sink.hex_field(part(buffer, 0, n))
 }
 
 // The first so many numbers of a buffer.
-fn numbers(buffer: &[u16; MOST], n: usize, out: &mut [u8], sink: Sink) -> Sink {
-    sink.numbers_field(out, part16(buffer, 0, n))
+fn numbers(buffer: &[u16; MOST], n: usize, sink: Sink) -> Sink {
+    sink.numbers_field(part16(buffer, 0, n))
 }
 
 // The first four buffers.
-fn front(h: Held, rooms: [usize; 8], out: &mut [u8], sink: Sink) -> Sink {
+fn front(h: Held, rooms: [usize; 8], sink: Sink) -> Sink {
     let text = h.text;
     let types = h.types;
     let boundaries = h.boundaries;
     let char_pos = h.char_pos;
-    let s1 = bytes(&text, rooms[0], out, sink);
-    let s2 = bytes(&types, rooms[1], out, s1);
-    let s3 = bytes(&boundaries, rooms[2], out, s2);
-    numbers(&char_pos, rooms[3], out, s3)
+    let s1 = bytes(&text, rooms[0], sink);
+    let s2 = bytes(&types, rooms[1], s1);
+    let s3 = bytes(&boundaries, rooms[2], s2);
+    numbers(&char_pos, rooms[3], s3)
 }
 
 // The last four buffers.
-fn back(h: Held, rooms: [usize; 8], out: &mut [u8], sink: Sink) -> Sink {
+fn back(h: Held, rooms: [usize; 8], sink: Sink) -> Sink {
     let byte_pos = h.byte_pos;
     let row_ends = h.row_ends;
     let tag_ends = h.tag_ends;
     let tag_bytes = h.tag_bytes;
-    let s1 = numbers(&byte_pos, rooms[4], out, sink);
-    let s2 = numbers(&row_ends, rooms[5], out, s1);
-    let s3 = numbers(&tag_ends, rooms[6], out, s2);
-    bytes(&tag_bytes, rooms[7], out, s3)
+    let s1 = numbers(&byte_pos, rooms[4], sink);
+    let s2 = numbers(&row_ends, rooms[5], s1);
+    let s3 = numbers(&tag_ends, rooms[6], s2);
+    bytes(&tag_bytes, rooms[7], s3)
 }
 
 // The length asked for of a buffer.
@@ -98,11 +94,11 @@ fn call(line: &[u8], rooms: [usize; 8]) -> Held {
 }
 
 // M F LINE ROOMS, U F LINE ROOMS: the answer, and all that is lent.
-pub fn ask(line: &[u8], out: &mut [u8], sink: Sink) -> Sink {
+pub fn ask(line: &[u8], sink: Sink) -> Sink {
     let rooms = rooms_of(line);
     let h = call(line, rooms);
     let a = h.answer;
-    let answered = told(a, out, sink);
-    let half = front(h, rooms, out, answered);
-    back(h, rooms, out, half)
+    let answered = told(a, sink);
+    let half = front(h, rooms, answered);
+    back(h, rooms, half)
 }

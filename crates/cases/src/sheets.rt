@@ -41,11 +41,11 @@ fn form_at(kind: u8) -> usize {
 }
 
 // A refusal: the recorded ones have no number, but for 2.
-fn refused(kind: u8, f: Refusal, out: &mut [u8], sink: Sink) -> Sink {
+fn refused(kind: u8, f: Refusal, sink: Sink) -> Sink {
     if (kind >= 97) | (f.number == 2) {
-        return render::refusal(f, out, sink);
+        return render::refusal(f, sink);
     }
-    sink.put(out, b'!')
+    sink.put(b'!')
 }
 
 // L: N, B, columns, and the length and the sum of the fields.
@@ -59,10 +59,8 @@ fn long_case(
     row_ends: &[u16],
     tag_ends: &[u16],
     tag_bytes: &[u8],
-    out: &mut [u8],
     sink: Sink,
 ) -> Sink {
-    let mut scrap = [0u8; 1];
     let whole = render::fields(
         r,
         text,
@@ -73,27 +71,21 @@ fn long_case(
         row_ends,
         tag_ends,
         tag_bytes,
-        &mut scrap,
-        Sink::new(),
+        Sink::quiet(),
     );
-    let told = sink.text(out, b"= ");
-    told.counts(
-        out,
-        &[
-            r.n as u64,
-            r.b as u64,
-            r.columns as u64,
-            whole.count as u64,
-            whole.sum as u64,
-        ],
-    )
+    let told = sink.put(b'=')
+        .number_field(r.n as u64)
+        .number_field(r.b as u64);
+    told.number_field(r.columns as u64)
+        .number_field(whole.count as u64)
+        .number_field(whole.sum as u64)
 }
 
 // What stands before the fields.
-fn head(a: Answer, out: &mut [u8], sink: Sink) -> Sink {
+fn head(a: Answer, sink: Sink) -> Sink {
     match a {
-        Answer::Sentence(_) => sink.text(out, b"= "),
-        Answer::Refused(f) => render::refusal(f, out, sink).put(out, b' '),
+        Answer::Sentence(_) => sink.yes(),
+        Answer::Refused(f) => render::refusal(f, sink).put(b' '),
     }
 }
 
@@ -118,7 +110,6 @@ fn sentence_told(
     row_ends: &[u16],
     tag_ends: &[u16],
     tag_bytes: &[u8],
-    out: &mut [u8],
     sink: Sink,
 ) -> Sink {
     if kind == b'L' {
@@ -132,11 +123,10 @@ fn sentence_told(
             row_ends,
             tag_ends,
             tag_bytes,
-            out,
             sink,
         );
     }
-    let told = head(a, out, sink);
+    let told = head(a, sink);
     render::fields(
         after(a, r),
         text,
@@ -147,14 +137,13 @@ fn sentence_told(
         row_ends,
         tag_ends,
         tag_bytes,
-        out,
         told,
     )
 }
 
 // The first so many bytes of an output.
-fn output(room: &[u8; 64], n: usize, out: &mut [u8], sink: Sink) -> Sink {
-    sink.hex_field(out, part(room, 0, n))
+fn output(room: &[u8; 64], n: usize, sink: Sink) -> Sink {
+    sink.hex_field(part(room, 0, n))
 }
 
 // W: a line written into an output of a given length, and all that the output holds after it.
@@ -169,7 +158,6 @@ fn write_case(
     row_ends: &[u16],
     tag_ends: &[u16],
     tag_bytes: &[u8],
-    out: &mut [u8],
     sink: Sink,
 ) -> Sink {
     let mut room = [165u8; 64];
@@ -187,8 +175,8 @@ fn write_case(
         tag_bytes,
         &mut room[0..n],
     );
-    let told = render::number(a, out, sink);
-    output(&room, n, out, told)
+    let told = render::number(a, sink);
+    output(&room, n, told)
 }
 
 // The answer to a question on a part of the sentence.
@@ -203,7 +191,6 @@ fn part_told(
     row_ends: &[u16],
     tag_ends: &[u16],
     tag_bytes: &[u8],
-    out: &mut [u8],
     sink: Sink,
 ) -> Sink {
     if first(line) == b'W' {
@@ -218,7 +205,6 @@ fn part_told(
             row_ends,
             tag_ends,
             tag_bytes,
-            out,
             sink,
         );
     }
@@ -234,7 +220,7 @@ fn part_told(
         tag_ends,
         tag_bytes,
     );
-    render::found(found, text, tag_bytes, out, sink)
+    render::found(found, text, tag_bytes, sink)
 }
 
 // The answer to a question on a sentence that was read, after the change that it asks for.
@@ -250,7 +236,6 @@ fn told(
     row_ends: &[u16; MOST],
     tag_ends: &[u16; MOST],
     tag_bytes: &[u8; MOST],
-    out: &mut [u8],
     sink: Sink,
 ) -> Sink {
     let kind = first(line);
@@ -266,7 +251,6 @@ fn told(
             row_ends,
             tag_ends,
             tag_bytes,
-            out,
             sink,
         );
     }
@@ -282,13 +266,12 @@ fn told(
         row_ends,
         tag_ends,
         tag_bytes,
-        out,
         sink,
     )
 }
 
 // Makes the change that a question asks for, and answers it.
-fn served(line: &[u8], r: Record, h: Held, out: &mut [u8], sink: Sink) -> Sink {
+fn served(line: &[u8], r: Record, h: Held, sink: Sink) -> Sink {
     let text = h.text;
     let types = h.types;
     let mut boundaries = h.boundaries;
@@ -321,7 +304,6 @@ fn served(line: &[u8], r: Record, h: Held, out: &mut [u8], sink: Sink) -> Sink {
         &row_ends,
         &tag_ends,
         &tag_bytes,
-        out,
         sink,
     )
 }
@@ -345,17 +327,17 @@ fn held(line: &[u8]) -> Held {
 }
 
 // The answer to a question on a line.
-pub fn ask(line: &[u8], out: &mut [u8], sink: Sink) -> Sink {
+pub fn ask(line: &[u8], sink: Sink) -> Sink {
     let h = held(line);
     let kind = first(line);
     let a = h.answer;
     match a {
         Answer::Sentence(r) => {
             if kind >= 97 {
-                return sink.put(out, b'=');
+                return sink.put(b'=');
             }
-            served(line, r, h, out, sink)
+            served(line, r, h, sink)
         }
-        Answer::Refused(f) => refused(kind, f, out, sink),
+        Answer::Refused(f) => refused(kind, f, sink),
     }
 }

@@ -1,0 +1,42 @@
+// The list of the tokens of a sheet, filled with given room: the records after the call, and the call's answer, by value.
+use sheet::Number;
+use sheet::Record;
+use tokens::Token;
+ghost use Prim.Native.Nat.{_≤_};
+ghost use mathlib.Core.Path.{_≡_};
+ghost use lib.ListN.{length};
+
+// The records of a list after it was filled with room for so many; every record held a mark before it.
+pub fn filled(
+    r: Record,
+    text: &[u8],
+    types: &[u8],
+    boundaries: &[u8],
+    char_pos: &[u16],
+    byte_pos: &[u16],
+    row_ends: &[u16],
+    tag_ends: &[u16],
+    tag_bytes: &[u8],
+    room: usize,
+) -> [Token; 64]
+    requires { ⌜ room ≤ 64 ⌝ }
+    ensures { λ a. ⌜ length a ≡ 64 ⌝ }
+{
+    let mut list = [Token {
+        start: 1,
+        end: 0,
+    }; 64];
+    let _answer = tokens::token_list(
+        r,
+        text,
+        types,
+        boundaries,
+        char_pos,
+        byte_pos,
+        row_ends,
+        tag_ends,
+        tag_bytes,
+        &mut list[..room],
+    );
+    list
+}
