@@ -1,6 +1,7 @@
 // Questions on a line that is read: its sentence or its refusal, and what the calls on the sheet answer.
 use crate::calls;
 use crate::calls::place;
+use crate::lists;
 use crate::render;
 use asking::Held;
 use asking::MOST;
@@ -239,6 +240,20 @@ fn told(
     sink: Sink,
 ) -> Sink {
     let kind = first(line);
+    if kind == b'A' {
+        return lists::ask(
+            r,
+            text,
+            types,
+            boundaries,
+            char_pos,
+            byte_pos,
+            row_ends,
+            tag_ends,
+            tag_bytes,
+            sink,
+        );
+    }
     if is_of(kind, b'N', b'W', b'Q') {
         return part_told(
             line,

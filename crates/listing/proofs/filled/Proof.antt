@@ -38,7 +38,7 @@ use denote.Slice.{sliceVal, MutSlice, ShrSlice, shr-slice-copy, shr-slice-tells,
 use denote.Lend.{Held, lends-slice, slice-back}
 use denote.Index.{row, whole-in, whole-out}
 use denote.Signature.{plain}
-use denote.Steps.{owned, peeks, nothing}
+use denote.Steps.{owned, peeks, heard, nothing}
 use denote.Struct.Steps.{spelt}
 use denote.Struct.Laws as LL
 use denote.Struct.Struct.{twices}
@@ -60,7 +60,7 @@ use Rattle.sheet.proofs.Record.Laws as R′
 use Rattle.sheet.proofs.Number as N
 use Rattle.sheet.proofs.Number.Laws as N′
 use Rattle.tokens.specs.declared.Token.{Token}
-use Rattle.tokens.specs.Steps.{Listed}
+use Rattle.tokens.specs.Steps.{Listed, countOf}
 use Rattle.tokens.proofs.Token as Tok
 use Rattle.tokens.proofs.Token.Laws as Tok′
 use Rattle.tokens.proofs.token_list as tl
