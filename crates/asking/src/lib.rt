@@ -1,4 +1,7 @@
-// A line read into buffers with given room, and handed back by value: the answer, and all that the buffers hold after it.
+// The public functions as questions ask them: a line read into buffers with given room and handed back by value, with all that
+// the buffers hold after the call; and the calls on a sheet.
+pub mod calls; // calls.rt: the calls on a sheet, each with its small answer by value
+
 use sheet::Answer;
 ghost use Prim.Native.Nat.{_≤_};
 
@@ -32,7 +35,19 @@ fn room(rooms: [usize; 8], k: usize) -> usize
 }
 
 // A raw line.
-fn raw(line: &[u8], rooms: [usize; 8]) -> Held {
+fn raw(
+    line: &[u8],
+    a: usize,
+    b: usize,
+    c: usize,
+    d: usize,
+    e: usize,
+    f: usize,
+    g: usize,
+    h: usize,
+) -> Held
+    requires { ⌜ (a ≤ 4097) × (b ≤ 4097) × (c ≤ 4097) × (d ≤ 4097) × (e ≤ 4097) × (f ≤ 4097) × (g ≤ 4097) × (h ≤ 4097) ⌝ }
+{
     let mut text = [165u8; MOST];
     let mut types = [165u8; MOST];
     let mut boundaries = [165u8; MOST];
@@ -41,14 +56,6 @@ fn raw(line: &[u8], rooms: [usize; 8]) -> Held {
     let mut row_ends = [42405u16; MOST];
     let mut tag_ends = [42405u16; MOST];
     let mut tag_bytes = [165u8; MOST];
-    let a = room(rooms, 0);
-    let b = room(rooms, 1);
-    let c = room(rooms, 2);
-    let d = room(rooms, 3);
-    let e = room(rooms, 4);
-    let f = room(rooms, 5);
-    let g = room(rooms, 6);
-    let h = room(rooms, 7);
     let answer = read::from_raw(
         line,
         &mut text[0..a],
@@ -74,7 +81,19 @@ fn raw(line: &[u8], rooms: [usize; 8]) -> Held {
 }
 
 // A tokenized line.
-fn tokenized(line: &[u8], rooms: [usize; 8]) -> Held {
+fn tokenized(
+    line: &[u8],
+    a: usize,
+    b: usize,
+    c: usize,
+    d: usize,
+    e: usize,
+    f: usize,
+    g: usize,
+    h: usize,
+) -> Held
+    requires { ⌜ (a ≤ 4097) × (b ≤ 4097) × (c ≤ 4097) × (d ≤ 4097) × (e ≤ 4097) × (f ≤ 4097) × (g ≤ 4097) × (h ≤ 4097) ⌝ }
+{
     let mut text = [165u8; MOST];
     let mut types = [165u8; MOST];
     let mut boundaries = [165u8; MOST];
@@ -83,14 +102,6 @@ fn tokenized(line: &[u8], rooms: [usize; 8]) -> Held {
     let mut row_ends = [42405u16; MOST];
     let mut tag_ends = [42405u16; MOST];
     let mut tag_bytes = [165u8; MOST];
-    let a = room(rooms, 0);
-    let b = room(rooms, 1);
-    let c = room(rooms, 2);
-    let d = room(rooms, 3);
-    let e = room(rooms, 4);
-    let f = room(rooms, 5);
-    let g = room(rooms, 6);
-    let h = room(rooms, 7);
     let answer = read::from_tokenized(
         line,
         &mut text[0..a],
@@ -116,7 +127,19 @@ fn tokenized(line: &[u8], rooms: [usize; 8]) -> Held {
 }
 
 // A partial line.
-fn partial(line: &[u8], rooms: [usize; 8]) -> Held {
+fn partial(
+    line: &[u8],
+    a: usize,
+    b: usize,
+    c: usize,
+    d: usize,
+    e: usize,
+    f: usize,
+    g: usize,
+    h: usize,
+) -> Held
+    requires { ⌜ (a ≤ 4097) × (b ≤ 4097) × (c ≤ 4097) × (d ≤ 4097) × (e ≤ 4097) × (f ≤ 4097) × (g ≤ 4097) × (h ≤ 4097) ⌝ }
+{
     let mut text = [165u8; MOST];
     let mut types = [165u8; MOST];
     let mut boundaries = [165u8; MOST];
@@ -125,14 +148,6 @@ fn partial(line: &[u8], rooms: [usize; 8]) -> Held {
     let mut row_ends = [42405u16; MOST];
     let mut tag_ends = [42405u16; MOST];
     let mut tag_bytes = [165u8; MOST];
-    let a = room(rooms, 0);
-    let b = room(rooms, 1);
-    let c = room(rooms, 2);
-    let d = room(rooms, 3);
-    let e = room(rooms, 4);
-    let f = room(rooms, 5);
-    let g = room(rooms, 6);
-    let h = room(rooms, 7);
     let answer = read::from_partial_annotation(
         line,
         &mut text[0..a],
@@ -159,25 +174,6 @@ fn partial(line: &[u8], rooms: [usize; 8]) -> Held {
 
 // Reads a line in the form of a letter.
 pub fn read_line(form: u8, line: &[u8], rooms: [usize; 8]) -> Held {
-    if form == b'R' {
-        return raw(line, rooms);
-    }
-    if form == b'T' {
-        return tokenized(line, rooms);
-    }
-    partial(line, rooms)
-}
-
-// An update by a raw line.
-fn raw_again(line: &[u8], rooms: [usize; 8]) -> Held {
-    let mut text = [165u8; MOST];
-    let mut types = [165u8; MOST];
-    let mut boundaries = [165u8; MOST];
-    let mut char_pos = [42405u16; MOST];
-    let mut byte_pos = [42405u16; MOST];
-    let mut row_ends = [42405u16; MOST];
-    let mut tag_ends = [42405u16; MOST];
-    let mut tag_bytes = [165u8; MOST];
     let a = room(rooms, 0);
     let b = room(rooms, 1);
     let c = room(rooms, 2);
@@ -186,6 +182,37 @@ fn raw_again(line: &[u8], rooms: [usize; 8]) -> Held {
     let f = room(rooms, 5);
     let g = room(rooms, 6);
     let h = room(rooms, 7);
+    if form == b'R' {
+        return raw(line, a, b, c, d, e, f, g, h);
+    }
+    if form == b'T' {
+        return tokenized(line, a, b, c, d, e, f, g, h);
+    }
+    partial(line, a, b, c, d, e, f, g, h)
+}
+
+// An update by a raw line.
+fn raw_again(
+    line: &[u8],
+    a: usize,
+    b: usize,
+    c: usize,
+    d: usize,
+    e: usize,
+    f: usize,
+    g: usize,
+    h: usize,
+) -> Held
+    requires { ⌜ (a ≤ 4097) × (b ≤ 4097) × (c ≤ 4097) × (d ≤ 4097) × (e ≤ 4097) × (f ≤ 4097) × (g ≤ 4097) × (h ≤ 4097) ⌝ }
+{
+    let mut text = [165u8; MOST];
+    let mut types = [165u8; MOST];
+    let mut boundaries = [165u8; MOST];
+    let mut char_pos = [42405u16; MOST];
+    let mut byte_pos = [42405u16; MOST];
+    let mut row_ends = [42405u16; MOST];
+    let mut tag_ends = [42405u16; MOST];
+    let mut tag_bytes = [165u8; MOST];
     let answer = read::update_raw(
         line,
         &mut text[0..a],
@@ -211,7 +238,19 @@ fn raw_again(line: &[u8], rooms: [usize; 8]) -> Held {
 }
 
 // An update by a tokenized line.
-fn tokenized_again(line: &[u8], rooms: [usize; 8]) -> Held {
+fn tokenized_again(
+    line: &[u8],
+    a: usize,
+    b: usize,
+    c: usize,
+    d: usize,
+    e: usize,
+    f: usize,
+    g: usize,
+    h: usize,
+) -> Held
+    requires { ⌜ (a ≤ 4097) × (b ≤ 4097) × (c ≤ 4097) × (d ≤ 4097) × (e ≤ 4097) × (f ≤ 4097) × (g ≤ 4097) × (h ≤ 4097) ⌝ }
+{
     let mut text = [165u8; MOST];
     let mut types = [165u8; MOST];
     let mut boundaries = [165u8; MOST];
@@ -220,14 +259,6 @@ fn tokenized_again(line: &[u8], rooms: [usize; 8]) -> Held {
     let mut row_ends = [42405u16; MOST];
     let mut tag_ends = [42405u16; MOST];
     let mut tag_bytes = [165u8; MOST];
-    let a = room(rooms, 0);
-    let b = room(rooms, 1);
-    let c = room(rooms, 2);
-    let d = room(rooms, 3);
-    let e = room(rooms, 4);
-    let f = room(rooms, 5);
-    let g = room(rooms, 6);
-    let h = room(rooms, 7);
     let answer = read::update_tokenized(
         line,
         &mut text[0..a],
@@ -253,7 +284,19 @@ fn tokenized_again(line: &[u8], rooms: [usize; 8]) -> Held {
 }
 
 // An update by a partial line.
-fn partial_again(line: &[u8], rooms: [usize; 8]) -> Held {
+fn partial_again(
+    line: &[u8],
+    a: usize,
+    b: usize,
+    c: usize,
+    d: usize,
+    e: usize,
+    f: usize,
+    g: usize,
+    h: usize,
+) -> Held
+    requires { ⌜ (a ≤ 4097) × (b ≤ 4097) × (c ≤ 4097) × (d ≤ 4097) × (e ≤ 4097) × (f ≤ 4097) × (g ≤ 4097) × (h ≤ 4097) ⌝ }
+{
     let mut text = [165u8; MOST];
     let mut types = [165u8; MOST];
     let mut boundaries = [165u8; MOST];
@@ -262,14 +305,6 @@ fn partial_again(line: &[u8], rooms: [usize; 8]) -> Held {
     let mut row_ends = [42405u16; MOST];
     let mut tag_ends = [42405u16; MOST];
     let mut tag_bytes = [165u8; MOST];
-    let a = room(rooms, 0);
-    let b = room(rooms, 1);
-    let c = room(rooms, 2);
-    let d = room(rooms, 3);
-    let e = room(rooms, 4);
-    let f = room(rooms, 5);
-    let g = room(rooms, 6);
-    let h = room(rooms, 7);
     let answer = read::update_partial_annotation(
         line,
         &mut text[0..a],
@@ -296,11 +331,19 @@ fn partial_again(line: &[u8], rooms: [usize; 8]) -> Held {
 
 // Updates by a line in the form of a letter.
 pub fn update(form: u8, line: &[u8], rooms: [usize; 8]) -> Held {
+    let a = room(rooms, 0);
+    let b = room(rooms, 1);
+    let c = room(rooms, 2);
+    let d = room(rooms, 3);
+    let e = room(rooms, 4);
+    let f = room(rooms, 5);
+    let g = room(rooms, 6);
+    let h = room(rooms, 7);
     if form == b'R' {
-        return raw_again(line, rooms);
+        return raw_again(line, a, b, c, d, e, f, g, h);
     }
     if form == b'T' {
-        return tokenized_again(line, rooms);
+        return tokenized_again(line, a, b, c, d, e, f, g, h);
     }
-    partial_again(line, rooms)
+    partial_again(line, a, b, c, d, e, f, g, h)
 }

@@ -1,6 +1,6 @@
 // Questions on the list of all tokens: A F LINE.
-use crate::calls::at_most;
 use crate::render;
+use asking::calls::at_most;
 use casework::Sink;
 use sheet::Number;
 use sheet::Record;

@@ -1,6 +1,5 @@
 // Asks the public functions what the questions of the input ask: each line is written back, a question with its answer.
 // A question is fields between spaces, the first a letter, its kind. A line that starts with # is no question.
-mod calls;
 mod lists;
 mod render;
 mod rooms;
@@ -64,7 +63,7 @@ fn answered(line: &[u8]) -> Sink {
 
 // Writes a line, with its answer if it is a question.
 fn show_line(line: &[u8]) {
-    answered(line).put(b'\n');
+    answered(line).put(b'\n').flush();
 }
 
 // Adds a piece of the input to the line that is held, and shows each line that ends there; answers how long the held line is then.

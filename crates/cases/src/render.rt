@@ -1,6 +1,6 @@
 // The fields of an answer, put together from a sheet by the public functions.
-use crate::calls;
-use crate::calls::Found;
+use asking::calls;
+use asking::calls::Found;
 use casework::Sink;
 use casework::part;
 use casework::part16;

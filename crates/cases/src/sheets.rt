@@ -1,10 +1,10 @@
 // Questions on a line that is read: its sentence or its refusal, and what the calls on the sheet answer.
-use crate::calls;
-use crate::calls::place;
 use crate::lists;
 use crate::render;
 use asking::Held;
 use asking::MOST;
+use asking::calls;
+use asking::calls::place;
 use casework::Sink;
 use casework::field;
 use casework::first;

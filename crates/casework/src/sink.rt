@@ -1,12 +1,19 @@
 // Where an answer goes, byte by byte.
+use crate::fields::part;
 use std::num::wrapping_add_u32;
 use std::num::wrapping_add_usize;
 
-// How many bytes were put, their sum (from 5381, each byte gives 33 times the sum plus the byte), and whether they are not written.
+// How many bytes are held before they are written.
+const ROOM: usize = 16;
+
+// What is put is held and written in pieces; of a quiet one it is only counted: how many bytes, and their sum (from 5381, each
+// byte gives 33 times the sum plus the byte).
 pub struct Sink {
     pub count: usize,
     pub sum: u32,
-    pub quiet: bool,
+    quiet: bool,
+    held: [u8; ROOM],
+    n: usize,
 }
 
 // The digit of a number below 16.
@@ -26,35 +33,65 @@ fn wide(n: u16) -> u64 {
 }
 
 impl Sink {
-    // Nothing yet, and what is put is written.
-    pub fn new() -> Self {
+    // Nothing yet; whether what is put is only counted.
+    fn empty(quiet: bool) -> Self {
         Sink {
             count: 0,
             sum: 5381,
-            quiet: false,
+            quiet: quiet,
+            held: [0; ROOM],
+            n: 0,
         }
+    }
+
+    // Nothing yet, and what is put is written.
+    pub fn new() -> Self {
+        Sink::empty(false)
     }
 
     // Nothing yet, and what is put is only counted.
     pub fn quiet() -> Self {
-        Sink {
-            count: 0,
-            sum: 5381,
-            quiet: true,
+        Sink::empty(true)
+    }
+
+    // With one more byte counted.
+    fn counted(self, b: u8) -> Self {
+        let mut sink = self;
+        let times = wrapping_add_u32(self.sum << 5, self.sum);
+        sink.count = wrapping_add_usize(self.count, 1);
+        sink.sum = wrapping_add_u32(times, b as u32);
+        sink
+    }
+
+    // With one more byte held, where there is room.
+    fn with(self, b: u8) -> Self {
+        let mut sink = self;
+        let at = self.n;
+        if at < ROOM {
+            sink.held[at] = b;
+            sink.n = at + 1;
         }
+        sink
+    }
+
+    // Writes what is held.
+    pub fn flush(self) -> Self {
+        let mut sink = self;
+        let held = self.held;
+        io::write_all(1, part(&held, 0, self.n));
+        sink.n = 0;
+        sink
     }
 
     // Puts a byte.
     pub fn put(self, b: u8) -> Self {
-        if !self.quiet {
-            io::write_all(1, &[b]);
+        if self.quiet {
+            return self.counted(b);
         }
-        let times = wrapping_add_u32(self.sum << 5, self.sum);
-        Sink {
-            count: wrapping_add_usize(self.count, 1),
-            sum: wrapping_add_u32(times, b as u32),
-            quiet: self.quiet,
+        if self.n < ROOM {
+            return self.with(b);
         }
+        self.flush().with(b)
     }
 
     // Puts a byte, unless it is the first of a list.

@@ -1,5 +1,5 @@
 // The calls on a sheet, each with its small answer by value.
-use asking::MOST;
+use crate::MOST;
 use casework::field;
 use casework::find;
 use casework::first;
