@@ -44,7 +44,7 @@ fn list_told(
     sink: Sink,
 ) -> Sink {
     let n = at_most(room, 64);
-    let a = listing::answered(
+    let a = listing::given::answered(
         r,
         text,
         types,
@@ -56,7 +56,7 @@ fn list_told(
         tag_bytes,
         n,
     );
-    let list = listing::filled(
+    let list = listing::given::filled(
         r,
         text,
         types,
@@ -100,7 +100,7 @@ pub fn ask(
     tag_bytes: &[u8],
     sink: Sink,
 ) -> Sink {
-    let count = taken(listing::answered(
+    let count = taken(listing::given::answered(
         r,
         text,
         types,
