@@ -13,6 +13,7 @@ import reference as r  # noqa: E402
 HERE = Path(__file__).resolve().parent
 RECORDED = HERE.parent.parent / "host" / "recorded"
 FILL = 0xA5  # what every lent byte holds before a call
+ROOM = 64  # the most records of a token list
 
 # The lines that document 01 names, and its refusals 1 to 10, by hand.
 BY_HAND = [
@@ -124,6 +125,18 @@ def step_answer(form, line, place):
     return f"= {'.' if token is None else f'{token[0]}-{token[1]}'} {cursor}"
 
 
+def list_told(tokens):
+    """The list of all tokens with ample room, with room for one record too few, and with none: what was lent and not stored is a dot."""
+    count = len(tokens)
+    assert count < ROOM
+    told = {True: f"= {count} {','.join([*tokens, '.'])}", False: f"! 12 {count} {','.join(['.'] * (count + 1))}"}
+    return " ".join(told[room >= count] for room in [ROOM, max(0, count - 1), 0])
+
+
+def list_answer(form, line):
+    return list_told([f"{start}-{end}" for start, end in r.tokens(r.read(form, spelt(line)))])
+
+
 def type_answer(first, last):
     kinds = {r.type_of(value) for value in range(int(first), int(last) + 1)}
     return f"= {kinds.pop()}" if len(kinds) == 1 else "!"
@@ -178,7 +191,7 @@ ANSWERS = {
     "R": recorded_answer, "T": recorded_answer, "P": recorded_answer,
     "r": refusal_answer, "t": refusal_answer, "p": refusal_answer,
     "L": long_answer, "S": score_answer, "N": step_answer, "K": type_answer, "M": room_answer, "U": update_answer, "W": write_answer,
-    "Q": look_answer,
+    "Q": look_answer, "A": list_answer,
     "B": lambda form, line, index, value: changed_answer(r.set_boundary, form, line, int(index), int(value)),
     "C": lambda form, line, count: changed_answer(r.reset_tags, form, line, int(count)),
 }
@@ -202,6 +215,17 @@ def recorded():
         question = line.partition(" =")[0].partition(" !")[0]
         assert answered(question) == line, f"document 01 answers {answered(question)}, and recorded is {line}"
     return lines
+
+
+def recorded_lists():
+    """The token lists of the lines that the original accepted, from the tokens that it served; document 01's must be the same."""
+    for line in (RECORDED / "answers.txt").read_text().splitlines():
+        question, accepted, told = line.partition(" = ")
+        if accepted:
+            tokens = told.split(" ")[7]
+            made = f"A {question} {list_told([] if tokens == '.' else tokens.split(','))}"
+            assert answered(f"A {question}") == made, f"document 01 answers {answered(f'A {question}')}, and recorded is {made}"
+            yield made
 
 
 def by_hand():
@@ -291,6 +315,7 @@ def types():
 def lists():
     """The lines of stdout, list by list, each under a line that says what it is."""
     yield "# What the original answered", recorded()
+    yield "# The lists of the tokens that the original served", recorded_lists()
     yield "# Document 01's lines and refusals, by hand", by_hand()
     yield "# Every short line", map(answered, short())
     yield "# Types on both sides", map(answered, types())

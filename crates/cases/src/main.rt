@@ -1,5 +1,6 @@
 // Asks the public functions what the questions of the input ask: each line is written back, a question with its answer.
 // A question is fields between spaces, the first a letter, its kind. A line that starts with # is no question.
+mod lists;
 mod render;
 mod rooms;
 mod sheets;
@@ -33,42 +34,36 @@ fn kind_of_run(from: u64, to: u64) -> u8 {
 }
 
 // K FIRST LAST: the type of the characters of a run.
-fn kind_case(line: &[u8], out: &mut [u8], sink: Sink) -> Sink {
+fn kind_case(line: &[u8], sink: Sink) -> Sink {
     let kind = kind_of_run(number(field(line, 1)), number(field(line, 2)));
-    let told = sink.text(out, b"= ");
-    told.number(out, kind as u64)
+    let told = sink.yes();
+    told.number(kind as u64)
 }
 
 // The answer to a question.
-fn answer(line: &[u8], out: &mut [u8], sink: Sink) -> Sink {
+fn answer(line: &[u8], sink: Sink) -> Sink {
     let kind = first(line);
     if kind == b'K' {
-        return kind_case(line, out, sink);
+        return kind_case(line, sink);
     }
-    if kind == b'M' {
-        return rooms::ask(line, out, sink);
+    if (kind == b'M') | (kind == b'U') {
+        return rooms::ask(line, sink);
     }
-    if kind == b'U' {
-        return rooms::ask(line, out, sink);
-    }
-    sheets::ask(line, out, sink)
+    sheets::ask(line, sink)
 }
 
 // A line, with its answer if it is a question.
-fn answered(line: &[u8], out: &mut [u8]) -> Sink {
-    let asked = Sink::new().text(out, line);
+fn answered(line: &[u8]) -> Sink {
+    let asked = Sink::new().text(line);
     if first(line) == b'#' {
         return asked;
     }
-    let spaced = asked.put(out, b' ');
-    answer(line, out, spaced)
+    answer(line, asked.put(b' '))
 }
 
 // Writes a line, with its answer if it is a question.
 fn show_line(line: &[u8]) {
-    let mut out = [0u8; 8192];
-    let sink = answered(line, &mut out).put(&mut out, b'\n');
-    io::write_all(1, part(&out, 0, sink.count));
+    answered(line).put(b'\n').flush();
 }
 
 // Adds a piece of the input to the line that is held, and shows each line that ends there; answers how long the held line is then.

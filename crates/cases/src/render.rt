@@ -1,4 +1,6 @@
 // The fields of an answer, put together from a sheet by the public functions.
+use asking::calls;
+use asking::calls::Found;
 use casework::Sink;
 use casework::part;
 use casework::part16;
@@ -17,17 +19,61 @@ ghost use Rattle.sheet.specs.Layout.{buffers, Sheet};
 const ROOM: usize = 131072;
 
 // A refusal: its number and its place.
-pub fn refusal(f: Refusal, out: &mut [u8], sink: Sink) -> Sink {
-    let told = sink.text(out, b"! ");
-    told.counts(out, &[f.number as u64, f.place as u64])
+pub fn refusal(f: Refusal, sink: Sink) -> Sink {
+    sink.refused(f.number as u64, f.place as u64)
+}
+
+// A number that a call answered.
+pub fn number(n: Number, sink: Sink) -> Sink {
+    match n {
+        Number::Is(value) => sink.yes().number(value as u64),
+        Number::Refused(f) => refusal(f, sink),
+    }
 }
 
 // A part of some bytes, or a dash for an absent one.
-pub fn bytes_of(bytes: &[u8], p: Part, out: &mut [u8], sink: Sink) -> Sink {
+fn bytes_of(bytes: &[u8], p: Part, sink: Sink) -> Sink {
     match p {
-        Part::Bytes { start, end } => sink.hex(out, part(bytes, start, end)),
-        Part::Absent => sink.put(out, b'-'),
-        Part::Refused(f) => refusal(f, out, sink),
+        Part::Bytes { start, end } => sink.hex(part(bytes, start, end)),
+        Part::Absent => sink.put(b'-'),
+        Part::Refused(f) => refusal(f, sink),
+    }
+}
+
+// A part that a call answered.
+fn part_told(bytes: &[u8], p: Part, sink: Sink) -> Sink {
+    match p {
+        Part::Refused(f) => refusal(f, sink),
+        Part::Bytes { start, end } => sink.yes().hex(part(bytes, start, end)),
+        Part::Absent => sink.yes().put(b'-'),
+    }
+}
+
+// A token: its start and its end.
+pub fn token(start: u16, end: u16, sink: Sink) -> Sink {
+    let begun = sink.number(start as u64).put(b'-');
+    begun.number(end as u64)
+}
+
+// A step of the token cursor: the token or a dot, and where the cursor is after it.
+fn step_told(s: Step, sink: Sink) -> Sink {
+    let told = sink.yes();
+    match s {
+        Step::Serves(t) => token(t.start, t.end, told).number_field(t.end as u64),
+        Step::Done { at } => told.put(b'.').number_field(at as u64),
+    }
+}
+
+// What a look-up found.
+pub fn found(f: Found, text: &[u8], tag_bytes: &[u8], sink: Sink) -> Sink {
+    match f {
+        Found::Number(n) => number(n, sink),
+        Found::Surface(p) => part_told(text, p, sink),
+        Found::Tag(p) => part_told(tag_bytes, p, sink),
+        Found::Step(next) => match next {
+            Next::Is(s) => step_told(s, sink),
+            Next::Refused(f) => refusal(f, sink),
+        },
     }
 }
 
@@ -126,7 +172,6 @@ fn row(
     tag_ends: &[u16],
     tag_bytes: &[u8],
     i: usize,
-    out: &mut [u8],
     sink: Sink,
 ) -> Sink
     requires { ⌜ Sheet r (buffers (now text) (now types) (now boundaries) (now «char_pos») (now «byte_pos») (now «row_ends») (now «tag_ends») (now «tag_bytes»)) × (i < r .n) ⌝ }
@@ -134,7 +179,7 @@ fn row(
     let mut s = sink;
     let mut j = 0;
     while j < r.columns {
-        s = s.joint(out, j, b',');
+        s = s.joint(j, b',');
         let found = cell(
             r,
             text,
@@ -148,7 +193,7 @@ fn row(
             i,
             j,
         );
-        s = bytes_of(tag_bytes, found, out, s);
+        s = bytes_of(tag_bytes, found, s);
         j += 1;
     }
     s
@@ -165,18 +210,17 @@ fn rows(
     row_ends: &[u16],
     tag_ends: &[u16],
     tag_bytes: &[u8],
-    out: &mut [u8],
     sink: Sink,
 ) -> Sink
     requires { ⌜ Sheet r (buffers (now text) (now types) (now boundaries) (now «char_pos») (now «byte_pos») (now «row_ends») (now «tag_ends») (now «tag_bytes»)) ⌝ }
 {
-    let mut s = sink.put(out, b' ');
+    let mut s = sink.put(b' ');
     if r.columns == 0 {
-        return s.put(out, b'.');
+        return s.put(b'.');
     }
     let mut i = 0;
     while i < r.n {
-        s = s.joint(out, i, b';');
+        s = s.joint(i, b';');
         s = row(
             r,
             text,
@@ -188,18 +232,11 @@ fn rows(
             tag_ends,
             tag_bytes,
             i,
-            out,
             s,
         );
         i += 1;
     }
     s
-}
-
-// A token: its start and its end.
-pub fn token(start: u16, end: u16, out: &mut [u8], sink: Sink) -> Sink {
-    let begun = sink.number(out, start as u64).put(out, b'-');
-    begun.number(out, end as u64)
 }
 
 // All tokens, by a cursor that starts at 0.
@@ -213,12 +250,11 @@ fn tokens_of(
     row_ends: &[u16],
     tag_ends: &[u16],
     tag_bytes: &[u8],
-    out: &mut [u8],
     sink: Sink,
 ) -> Sink
     requires { ⌜ Sheet r (buffers (now text) (now types) (now boundaries) (now «char_pos») (now «byte_pos») (now «row_ends») (now «tag_ends») (now «tag_bytes»)) ⌝ }
 {
-    let mut s = sink.put(out, b' ');
+    let mut s = sink.put(b' ');
     let mut p = 0;
     let mut i = 0;
     while i < r.n {
@@ -236,17 +272,17 @@ fn tokens_of(
         ) {
             Next::Is(step) => match step {
                 Step::Serves(t) => {
-                    s = s.joint(out, i, b',');
-                    s = token(t.start, t.end, out, s);
+                    s = s.joint(i, b',');
+                    s = token(t.start, t.end, s);
                     p = t.end as usize;
                     i += 1;
                 }
                 Step::Done { at: _ } => {
-                    return s.dot(out, i);
+                    return s.dot(i);
                 }
             },
             Next::Refused(f) => {
-                return refusal(f, out, s);
+                return refusal(f, s);
             }
         }
     }
@@ -254,15 +290,16 @@ fn tokens_of(
 }
 
 // A written line, which stands in its room.
-fn written(n: Number, room: &[u8], out: &mut [u8], sink: Sink) -> Sink {
+fn written(n: Number, room: &[u8], sink: Sink) -> Sink {
     match n {
-        Number::Is(length) => sink.hex_field(out, part(room, 0, length)),
-        Number::Refused(f) => refusal(f, out, sink),
+        Number::Is(length) => sink.hex_field(part(room, 0, length)),
+        Number::Refused(f) => refusal(f, sink),
     }
 }
 
-// Both written lines.
-fn lines(
+// The line of a writer.
+fn line_told(
+    writer: u8,
     r: Record,
     text: &[u8],
     types: &[u8],
@@ -272,11 +309,11 @@ fn lines(
     row_ends: &[u16],
     tag_ends: &[u16],
     tag_bytes: &[u8],
-    out: &mut [u8],
     sink: Sink,
 ) -> Sink {
     let mut room = [0u8; ROOM];
-    let first = write::write_tokenized_text(
+    let n = calls::write_line(
+        writer,
         r,
         text,
         types,
@@ -288,44 +325,24 @@ fn lines(
         tag_bytes,
         &mut room,
     );
-    let told = written(first, &room, out, sink);
-    let second = write::write_partial_annotation_text(
-        r,
-        text,
-        types,
-        boundaries,
-        char_pos,
-        byte_pos,
-        row_ends,
-        tag_ends,
-        tag_bytes,
-        &mut room,
-    );
-    written(second, &room, out, told)
+    written(n, &room, sink)
 }
 
 // Text, types and boundaries.
-fn characters(
-    r: Record,
-    text: &[u8],
-    types: &[u8],
-    boundaries: &[u8],
-    out: &mut [u8],
-    sink: Sink,
-) -> Sink {
-    let s1 = sink.hex(out, part(text, 0, r.b));
-    let s2 = s1.digits_field(out, part(types, 0, r.n));
-    s2.digits_field(out, part(boundaries, 0, wrapping_sub_usize(r.n, 1)))
+fn characters(r: Record, text: &[u8], types: &[u8], boundaries: &[u8], sink: Sink) -> Sink {
+    let s1 = sink.hex(part(text, 0, r.b));
+    let s2 = s1.digits_field(part(types, 0, r.n));
+    s2.digits_field(part(boundaries, 0, wrapping_sub_usize(r.n, 1)))
 }
 
 // Both position maps, and the columns.
-fn positions(r: Record, char_pos: &[u16], byte_pos: &[u16], out: &mut [u8], sink: Sink) -> Sink {
-    let s1 = sink.numbers_field(out, part16(char_pos, 0, wrapping_add_usize(r.n, 1)));
-    let s2 = s1.numbers_field(out, part16(byte_pos, 0, wrapping_add_usize(r.b, 1)));
-    s2.number_field(out, r.columns as u64)
+fn positions(r: Record, char_pos: &[u16], byte_pos: &[u16], sink: Sink) -> Sink {
+    let s1 = sink.numbers_field(part16(char_pos, 0, wrapping_add_usize(r.n, 1)));
+    let s2 = s1.numbers_field(part16(byte_pos, 0, wrapping_add_usize(r.b, 1)));
+    s2.number_field(r.columns as u64)
 }
 
-// The padded table, the tokens and both written lines.
+// The padded table and the tokens.
 fn labels(
     r: Record,
     text: &[u8],
@@ -336,7 +353,6 @@ fn labels(
     row_ends: &[u16],
     tag_ends: &[u16],
     tag_bytes: &[u8],
-    out: &mut [u8],
     sink: Sink,
 ) -> Sink
     requires { ⌜ Sheet r (buffers (now text) (now types) (now boundaries) (now «char_pos») (now «byte_pos») (now «row_ends») (now «tag_ends») (now «tag_bytes»)) ⌝ }
@@ -351,10 +367,9 @@ fn labels(
         row_ends,
         tag_ends,
         tag_bytes,
-        out,
         sink,
     );
-    let cut = tokens_of(
+    tokens_of(
         r,
         text,
         types,
@@ -364,21 +379,7 @@ fn labels(
         row_ends,
         tag_ends,
         tag_bytes,
-        out,
         listed,
-    );
-    lines(
-        r,
-        text,
-        types,
-        boundaries,
-        char_pos,
-        byte_pos,
-        row_ends,
-        tag_ends,
-        tag_bytes,
-        out,
-        cut,
     )
 }
 
@@ -393,7 +394,6 @@ fn labels_checked(
     row_ends: &[u16],
     tag_ends: &[u16],
     tag_bytes: &[u8],
-    out: &mut [u8],
     sink: Sink,
 ) -> Sink {
     if !sheet::check(
@@ -407,7 +407,7 @@ fn labels_checked(
         tag_ends,
         tag_bytes,
     ) {
-        return sink.text(out, b" ! 13 0");
+        return sink.put(b' ').refused(13, 0);
     }
     labels(
         r,
@@ -419,8 +419,60 @@ fn labels_checked(
         row_ends,
         tag_ends,
         tag_bytes,
-        out,
         sink,
+    )
+}
+
+// The padded table, the tokens and both written lines.
+fn ended(
+    r: Record,
+    text: &[u8],
+    types: &[u8],
+    boundaries: &[u8],
+    char_pos: &[u16],
+    byte_pos: &[u16],
+    row_ends: &[u16],
+    tag_ends: &[u16],
+    tag_bytes: &[u8],
+    sink: Sink,
+) -> Sink {
+    let labelled = labels_checked(
+        r,
+        text,
+        types,
+        boundaries,
+        char_pos,
+        byte_pos,
+        row_ends,
+        tag_ends,
+        tag_bytes,
+        sink,
+    );
+    let told = line_told(
+        b'T',
+        r,
+        text,
+        types,
+        boundaries,
+        char_pos,
+        byte_pos,
+        row_ends,
+        tag_ends,
+        tag_bytes,
+        labelled,
+    );
+    line_told(
+        b'P',
+        r,
+        text,
+        types,
+        boundaries,
+        char_pos,
+        byte_pos,
+        row_ends,
+        tag_ends,
+        tag_bytes,
+        told,
     )
 }
 
@@ -435,12 +487,11 @@ pub fn fields(
     row_ends: &[u16],
     tag_ends: &[u16],
     tag_bytes: &[u8],
-    out: &mut [u8],
     sink: Sink,
 ) -> Sink {
-    let begun = characters(r, text, types, boundaries, out, sink);
-    let placed = positions(r, char_pos, byte_pos, out, begun);
-    labels_checked(
+    let begun = characters(r, text, types, boundaries, sink);
+    let placed = positions(r, char_pos, byte_pos, begun);
+    ended(
         r,
         text,
         types,
@@ -450,7 +501,6 @@ pub fn fields(
         row_ends,
         tag_ends,
         tag_bytes,
-        out,
         placed,
     )
 }

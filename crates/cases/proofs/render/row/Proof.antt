@@ -1,15 +1,13 @@
 use Prim.Native.Nat.{_-_}
-use mathlib.Core.Path.{_≡_}
 use borrow.Author.Needs.{needs}
-use lib.ListN.{length}
 use Rattle.cases.proofs.render.row.Statement.{statement}
 use Rattle.cases.proofs.render.row.Tie as tie
 
 abbrev Inv-loop : tie.InvT-loop
-Inv-loop r text types boundaries char-pos byte-pos row-ends tag-ends tag-bytes i out₀ s₀ j₀ out s j = length out ≡ length out₀
+Inv-loop r text types boundaries char-pos byte-pos row-ends tag-ends tag-bytes i s₀ j₀ s j = Unit {0}
 
 abbrev μ-loop : tie.MeasureT-loop
-μ-loop r text types boundaries char-pos byte-pos row-ends tag-ends tag-bytes i out₀ s₀ j₀ out s j = r .columns - j
+μ-loop r text types boundaries char-pos byte-pos row-ends tag-ends tag-bytes i s₀ j₀ s j = r .columns - j
 
 loop-holds : tie.Need-loop-holds Inv-loop μ-loop
 loop-holds c = search needs
@@ -32,9 +30,6 @@ loop-less c = search needs
 loop-again : tie.Need-loop-again Inv-loop μ-loop
 loop-again c = search needs
 
-same-length : tie.Need-same-length Inv-loop μ-loop
-same-length c = search needs
-
 returns : tie.Need-returns Inv-loop μ-loop
 returns c = search needs
 
@@ -51,5 +46,4 @@ row-spec =
     add-j
     loop-less
     loop-again
-    same-length
     returns)

@@ -1,24 +1,19 @@
 use Prim.Native.Nat.{_-_}
-use mathlib.Core.Path.{_≡_}
 use borrow.Author.Needs.{needs}
-use lib.ListN.{length}
 use Rattle.cases.proofs.render.rows.Statement.{statement}
 use Rattle.cases.proofs.render.rows.Tie as tie
 
 abbrev Inv-loop : tie.InvT-loop
-Inv-loop r text types boundaries char-pos byte-pos row-ends tag-ends tag-bytes out₀ s₀ i₀ out s i = length out ≡ length out₀
+Inv-loop r text types boundaries char-pos byte-pos row-ends tag-ends tag-bytes s₀ i₀ s i = Unit {0}
 
 abbrev μ-loop : tie.MeasureT-loop
-μ-loop r text types boundaries char-pos byte-pos row-ends tag-ends tag-bytes out₀ s₀ i₀ out s i = r .n - i
+μ-loop r text types boundaries char-pos byte-pos row-ends tag-ends tag-bytes s₀ i₀ s i = r .n - i
 
 put-requires : tie.Need-put-requires Inv-loop μ-loop
 put-requires c κs = search needs
 
 put-requires-2 : tie.Need-put-requires-2 Inv-loop μ-loop
 put-requires-2 c κs = search needs
-
-same-length : tie.Need-same-length Inv-loop μ-loop
-same-length c = search needs
 
 returns : tie.Need-returns Inv-loop μ-loop
 returns c = search needs
@@ -41,9 +36,6 @@ loop-less c = search needs
 loop-again : tie.Need-loop-again Inv-loop μ-loop
 loop-again c = search needs
 
-same-length-2 : tie.Need-same-length-2 Inv-loop μ-loop
-same-length-2 c = search needs
-
 returns-2 : tie.Need-returns-2 Inv-loop μ-loop
 returns-2 c = search needs
 
@@ -55,7 +47,6 @@ rows-spec =
     μ-loop
     put-requires
     put-requires-2
-    same-length
     returns
     loop-holds
     joint-requires
@@ -63,5 +54,4 @@ rows-spec =
     add-i
     loop-less
     loop-again
-    same-length-2
     returns-2)

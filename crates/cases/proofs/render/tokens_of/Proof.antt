@@ -1,15 +1,13 @@
 use Prim.Native.Nat.{_-_}
-use mathlib.Core.Path.{_≡_}
 use borrow.Author.Needs.{needs}
-use lib.ListN.{length}
 use Rattle.cases.proofs.render.tokens_of.Statement.{statement}
 use Rattle.cases.proofs.render.tokens_of.Tie as tie
 
 abbrev Inv-loop : tie.InvT-loop
-Inv-loop r text types boundaries char-pos byte-pos row-ends tag-ends tag-bytes out₀ s₀ p₀ i₀ out s p i = length out ≡ length out₀
+Inv-loop r text types boundaries char-pos byte-pos row-ends tag-ends tag-bytes s₀ p₀ i₀ s p i = Unit {0}
 
 abbrev μ-loop : tie.MeasureT-loop
-μ-loop r text types boundaries char-pos byte-pos row-ends tag-ends tag-bytes out₀ s₀ p₀ i₀ out s p i = r .n - i
+μ-loop r text types boundaries char-pos byte-pos row-ends tag-ends tag-bytes s₀ p₀ i₀ s p i = r .n - i
 
 put-requires : tie.Need-put-requires Inv-loop μ-loop
 put-requires c κs = search needs
@@ -50,9 +48,6 @@ enum-told c = search needs
 dot-requires : tie.Need-dot-requires Inv-loop μ-loop
 dot-requires c κs = search needs
 
-same-length : tie.Need-same-length Inv-loop μ-loop
-same-length c = search needs
-
 returns : tie.Need-returns Inv-loop μ-loop
 returns c = search needs
 
@@ -62,14 +57,8 @@ enum-known-f c = search needs
 refusal-requires : tie.Need-refusal-requires Inv-loop μ-loop
 refusal-requires c κs = search needs
 
-same-length-2 : tie.Need-same-length-2 Inv-loop μ-loop
-same-length-2 c = search needs
-
 returns-2 : tie.Need-returns-2 Inv-loop μ-loop
 returns-2 c = search needs
-
-same-length-3 : tie.Need-same-length-3 Inv-loop μ-loop
-same-length-3 c = search needs
 
 returns-3 : tie.Need-returns-3 Inv-loop μ-loop
 returns-3 c = search needs
@@ -93,11 +82,8 @@ tokens-of-spec =
     loop-again
     enum-told
     dot-requires
-    same-length
     returns
     enum-known-f
     refusal-requires
-    same-length-2
     returns-2
-    same-length-3
     returns-3)

@@ -1,15 +1,14 @@
 use Prim.Native.Nat.{_-_, _≤_}
-use mathlib.Core.Path.{_≡_}
 use borrow.Author.Needs.{needs}
 use lib.ListN.{length}
 use Rattle.casework.proofs.sink.Sink.digits.Statement.{statement}
 use Rattle.casework.proofs.sink.Sink.digits.Tie as tie
 
 abbrev Inv-loop : tie.InvT-loop
-Inv-loop out₀ s sink₀ i₀ out sink i = (i ≤ length s) × (length out ≡ length out₀)
+Inv-loop s sink₀ i₀ sink i = i ≤ length s
 
 abbrev μ-loop : tie.MeasureT-loop
-μ-loop out₀ s sink₀ i₀ out sink i = length s - i
+μ-loop s sink₀ i₀ sink i = length s - i
 
 dot-requires : tie.Need-dot-requires Inv-loop μ-loop
 dot-requires c κs = search needs
@@ -35,9 +34,6 @@ loop-less c = search needs
 loop-again : tie.Need-loop-again Inv-loop μ-loop
 loop-again c = search needs
 
-same-length : tie.Need-same-length Inv-loop μ-loop
-same-length c = search needs
-
 returns : tie.Need-returns Inv-loop μ-loop
 returns c = search needs
 
@@ -55,5 +51,4 @@ digits-spec =
     add-i
     loop-less
     loop-again
-    same-length
     returns)
