@@ -47,6 +47,8 @@ kit=$(sed -n 's/.*Proved with: `\([^`]*\)`.*/\1/p' README.md | head -n 1)
 here=$(rt version </dev/null)
 [ "$kit" = "$here" ] || echo "test.sh: README.md names the kit '$kit', and this is '$here'"
 
+# rt ends one batch of proofs before it begins the next: batches of four keep two processors busy.
+export RT_JOBS=${RT_JOBS:-4}
 part rt ci
 part bash host/check.sh
 finish
