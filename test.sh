@@ -49,6 +49,10 @@ here=$(rt version </dev/null)
 
 # rt ends one batch of proofs before it begins the next: batches of four keep two processors busy.
 export RT_JOBS=${RT_JOBS:-4}
+# What an Arm machine lacks for the host's checks is installed meanwhile.
+[ ! -f host/tools.sh ] || (. host/tools.sh && find_rustc && find_x86) >/dev/null 2>&1 </dev/null &
+tools=$!
 part rt ci
+wait "$tools"
 part bash host/check.sh
 finish
