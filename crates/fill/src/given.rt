@@ -31,7 +31,7 @@ pub fn fill(
     while at < line.len() {
         let found = utf8::given::char_at(line, at);
         let len = found.len;
-        let stepped = state.follow(form, found.value);
+        let stepped = reader::given::follow(state, form, found.value);
         stores::given::turn(
             stepped,
             counts,

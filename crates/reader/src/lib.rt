@@ -1,4 +1,6 @@
 // The state of a reader, stepped by value over the characters of a line.
+pub mod given;
+
 ghost use mathlib.Core.Path.{_≡_};
 ghost use mathlib.Core.Bool.{true, false};
 ghost use Rattle.sentence.specs.Sentence.{code};
@@ -322,25 +324,6 @@ impl State {
         if c == 0 {
             return State::refused(4, c);
         }
-        if self.escape {
-            return self.ordinary(form, c);
-        }
-        if self.is_literal(form) {
-            return self.ordinary(form, c);
-        }
-        match form.kind(c) {
-            Kind::Mark(m) => self.boundary(m, c),
-            Kind::Slash => self.slash(c),
-            Kind::Back => self.backslash(c),
-            Kind::Plain => self.ordinary(form, c),
-        }
-    }
-
-    // One character that is no NUL. A pass over a line that was read before takes this step, so that each pass has its own compiled into its loop.
-    pub fn follow(self, form: Form, c: u32) -> Stepped
-        requires { ⌜ (c ≡ 0 → ⊥) ⌝ }
-        ensures { λ r. ⌜ r ≡ stepped c (advance (formOf form) (stateOf self) c) ⌝ }
-    {
         if self.escape {
             return self.ordinary(form, c);
         }

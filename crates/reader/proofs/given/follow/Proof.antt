@@ -1,8 +1,8 @@
 use Rattle.reader.specs.Flags.{kindOf}
 use Rattle.reader.proofs.Steps.{hands-escaped, hands-literal, hands-mark, hands-slash, hands-back, hands-plain}
 use borrow.Author.Needs.{needs}
-use Rattle.reader.proofs.State.follow.Statement.{statement}
-use Rattle.reader.proofs.State.follow.Tie as tie
+use Rattle.reader.proofs.given.follow.Statement.{statement}
+use Rattle.reader.proofs.given.follow.Tie as tie
 
 ordinary-requires : tie.Need-ordinary-requires
 ordinary-requires c κs = search needs
