@@ -1,3 +1,4 @@
+pub mod Bundles
 pub mod Cursor
 pub mod Held
 pub mod Answers

@@ -1,6 +1,5 @@
 -- `tokens::token_list` meets its contract: a walk of its MIR, by hand. It calls `needed`, `filled` and, in each turn, `token_from`, of which the proof knows only that they meet their contracts. The borrow of the list is opened once, before the loop, and closed once, after it.
 -- The loop's invariant is `Partway`, of the list in memory. Assumes nothing.
-mod Bundles
 use mathlib.Core.Path.{_≡_, refl, sym, _∙_, ap, subst}
 use Prim.Native.Nat.{ℕ, _+_, _-_, _*_, _≤_, _<_, _^_, zero-le}
 use native.Mathlib.Omega.{arith}
@@ -80,7 +79,7 @@ use Rattle.tokens.proofs.given.token_from.Met as from-thm
 use Rattle.tokens.proofs.token_list.Key.{name as #tokens·token-list}
 use Rattle.tokens.proofs.token_list as f
 use Rattle.tokens.proofs.token_list.Statement as stated
-use Rattle.tokens.proofs.token_list.Proof.Bundles.{has, bare, lifetimes, parts, binds, parts-lifetimes, binds-lifetimes, free-all}
+use Rattle.tokens.proofs.Bundles.{has, bare, lifetimes, parts, binds, parts-lifetimes, binds-lifetimes, free-all}
 use Rattle.tokens.proofs.token_list.Code as code
 use Rattle.tokens.proofs.token_list.Code.Mir as fn
 

@@ -67,7 +67,7 @@ use Rattle.tokens.proofs.token_list as tl
 use Rattle.tokens.proofs.token_list.Symbol as tl-def
 use Rattle.tokens.proofs.token_list.Symbol.{name as #tokens·token-list}
 use Rattle.tokens.proofs.token_list.Met as tl-thm
-use Rattle.listing.proofs.Bundles.{lifetimes, parts, binds, parts-lifetimes, binds-lifetimes}
+use Rattle.tokens.proofs.Bundles.{lifetimes, parts, binds, parts-lifetimes, binds-lifetimes}
 use Rattle.listing.proofs.given.answered.Key.{name as #listing·given·answered}
 use Rattle.listing.proofs.given.answered as f
 use Rattle.listing.proofs.given.answered.Statement as stated
