@@ -1,12 +1,8 @@
-// The public functions as questions ask them: a line read into buffers with given room and handed back by value, with all that
-// the buffers hold after the call; and the calls on a sheet.
-pub mod calls; // calls.rt: the calls on a sheet, each with its small answer by value
-
+// The readers as questions ask them: a line read into buffers with given room and handed back by value, with all that the
+// buffers hold after the call.
+use calls::MOST;
 use sheet::Answer;
 ghost use Prim.Native.Nat.{_≤_};
-
-// The most room of a buffer: what a line of 4,096 bytes can need.
-pub const MOST: usize = 4097;
 
 // What a call answered, and the eight buffers after it; every cell held a mark before it.
 pub struct Held {

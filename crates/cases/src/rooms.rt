@@ -1,8 +1,7 @@
 // Questions on buffers of given lengths: the answer, and all that the buffers hold after the call.
-use crate::render;
 use asking::Held;
-use asking::MOST;
-use asking::calls::place;
+use calls::MOST;
+use calls::place;
 use casework::Sink;
 use casework::field;
 use casework::first;

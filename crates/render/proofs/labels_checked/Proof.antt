@@ -1,7 +1,7 @@
 use borrow.Author.Needs.{needs}
 use Rattle.sheet.proofs.Look.{checked}
-use Rattle.cases.proofs.render.labels_checked.Statement.{statement}
-use Rattle.cases.proofs.render.labels_checked.Tie as tie
+use Rattle.render.proofs.labels_checked.Statement.{statement}
+use Rattle.render.proofs.labels_checked.Tie as tie
 
 check-requires : tie.Need-check-requires
 check-requires c κs = search needs

@@ -1,6 +1,8 @@
 // The fields of an answer, put together from a sheet by the public functions.
-use asking::calls;
-use asking::calls::Found;
+pub mod lists; // lists.rt: the answers on the list of all tokens
+pub mod sheets; // sheets.rt: the answers on a sheet
+
+use calls::Found;
 use casework::Sink;
 use casework::part;
 use casework::part16;
@@ -24,7 +26,7 @@ pub fn refusal(f: Refusal, sink: Sink) -> Sink {
 }
 
 // A number that a call answered.
-pub fn number(n: Number, sink: Sink) -> Sink {
+fn number(n: Number, sink: Sink) -> Sink {
     match n {
         Number::Is(value) => sink.yes().number(value as u64),
         Number::Refused(f) => refusal(f, sink),
@@ -50,7 +52,7 @@ fn part_told(bytes: &[u8], p: Part, sink: Sink) -> Sink {
 }
 
 // A token: its start and its end.
-pub fn token(start: u16, end: u16, sink: Sink) -> Sink {
+fn token(start: u16, end: u16, sink: Sink) -> Sink {
     let begun = sink.number(start as u64).put(b'-');
     begun.number(end as u64)
 }
@@ -65,7 +67,7 @@ fn step_told(s: Step, sink: Sink) -> Sink {
 }
 
 // What a look-up found.
-pub fn found(f: Found, text: &[u8], tag_bytes: &[u8], sink: Sink) -> Sink {
+fn found(f: Found, text: &[u8], tag_bytes: &[u8], sink: Sink) -> Sink {
     match f {
         Found::Number(n) => number(n, sink),
         Found::Surface(p) => part_told(text, p, sink),
@@ -289,6 +291,48 @@ fn tokens_of(
     s
 }
 
+// Writes the sentence into a room.
+fn write_line(
+    writer: u8,
+    r: Record,
+    text: &[u8],
+    types: &[u8],
+    boundaries: &[u8],
+    char_pos: &[u16],
+    byte_pos: &[u16],
+    row_ends: &[u16],
+    tag_ends: &[u16],
+    tag_bytes: &[u8],
+    room: &mut [u8],
+) -> Number {
+    if writer == b'T' {
+        return write::write_tokenized_text(
+            r,
+            text,
+            types,
+            boundaries,
+            char_pos,
+            byte_pos,
+            row_ends,
+            tag_ends,
+            tag_bytes,
+            room,
+        );
+    }
+    write::write_partial_annotation_text(
+        r,
+        text,
+        types,
+        boundaries,
+        char_pos,
+        byte_pos,
+        row_ends,
+        tag_ends,
+        tag_bytes,
+        room,
+    )
+}
+
 // A written line, which stands in its room.
 fn written(n: Number, room: &[u8], sink: Sink) -> Sink {
     match n {
@@ -312,7 +356,7 @@ fn line_told(
     sink: Sink,
 ) -> Sink {
     let mut room = [0u8; ROOM];
-    let n = calls::write_line(
+    let n = write_line(
         writer,
         r,
         text,
@@ -477,7 +521,7 @@ fn ended(
 }
 
 // The ten fields.
-pub fn fields(
+fn fields(
     r: Record,
     text: &[u8],
     types: &[u8],

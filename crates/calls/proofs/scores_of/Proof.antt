@@ -3,8 +3,8 @@ use mathlib.Core.Path.{_≡_}
 use native.Mathlib.Omega.{arith}
 use borrow.Author.Needs.{needs}
 use lib.ListN.{length, length-set}
-use Rattle.asking.proofs.calls.scores_of.Statement.{statement}
-use Rattle.asking.proofs.calls.scores_of.Tie as tie
+use Rattle.calls.proofs.scores_of.Statement.{statement}
+use Rattle.calls.proofs.scores_of.Tie as tie
 
 abbrev Inv-loop : tie.InvT-loop
 Inv-loop list scores₀ n₀ i₀ scores n i = (i ≤ length list + 1) × (length scores ≡ length scores₀)

@@ -1,7 +1,7 @@
 use borrow.Author.Needs.{needs}
 use Rattle.tokens.proofs.Held.{bounded-held}
-use Rattle.cases.proofs.render.step.Statement.{statement}
-use Rattle.cases.proofs.render.step.Tie as tie
+use Rattle.render.proofs.step.Statement.{statement}
+use Rattle.render.proofs.step.Tie as tie
 
 is-long-requires : tie.Need-is-long-requires
 is-long-requires c κs = search needs

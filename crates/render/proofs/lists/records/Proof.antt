@@ -1,7 +1,7 @@
 use Prim.Native.Nat.{_+_, _-_, _≤_}
 use borrow.Author.Needs.{needs}
-use Rattle.cases.proofs.lists.records.Statement.{statement}
-use Rattle.cases.proofs.lists.records.Tie as tie
+use Rattle.render.proofs.lists.records.Statement.{statement}
+use Rattle.render.proofs.lists.records.Tie as tie
 
 abbrev Inv-loop : tie.InvT-loop
 Inv-loop n list end s₀ i₀ s i = (end ≤ 63) × (i ≤ end + 1)

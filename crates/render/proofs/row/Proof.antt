@@ -1,7 +1,7 @@
 use Prim.Native.Nat.{_-_}
 use borrow.Author.Needs.{needs}
-use Rattle.cases.proofs.render.row.Statement.{statement}
-use Rattle.cases.proofs.render.row.Tie as tie
+use Rattle.render.proofs.row.Statement.{statement}
+use Rattle.render.proofs.row.Tie as tie
 
 abbrev Inv-loop : tie.InvT-loop
 Inv-loop r text types boundaries char-pos byte-pos row-ends tag-ends tag-bytes i s₀ j₀ s j = Unit {0}

@@ -1,7 +1,7 @@
 use Prim.Native.Nat.{_-_}
 use borrow.Author.Needs.{needs}
-use Rattle.cases.proofs.render.rows.Statement.{statement}
-use Rattle.cases.proofs.render.rows.Tie as tie
+use Rattle.render.proofs.rows.Statement.{statement}
+use Rattle.render.proofs.rows.Tie as tie
 
 abbrev Inv-loop : tie.InvT-loop
 Inv-loop r text types boundaries char-pos byte-pos row-ends tag-ends tag-bytes s₀ i₀ s i = Unit {0}

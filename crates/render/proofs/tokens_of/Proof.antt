@@ -1,7 +1,7 @@
 use Prim.Native.Nat.{_-_}
 use borrow.Author.Needs.{needs}
-use Rattle.cases.proofs.render.tokens_of.Statement.{statement}
-use Rattle.cases.proofs.render.tokens_of.Tie as tie
+use Rattle.render.proofs.tokens_of.Statement.{statement}
+use Rattle.render.proofs.tokens_of.Tie as tie
 
 abbrev Inv-loop : tie.InvT-loop
 Inv-loop r text types boundaries char-pos byte-pos row-ends tag-ends tag-bytes s₀ p₀ i₀ s p i = Unit {0}

@@ -1,6 +1,5 @@
 // Questions on the list of all tokens: A F LINE.
-use crate::render;
-use asking::calls::at_most;
+use calls::at_most;
 use casework::Sink;
 use sheet::Number;
 use sheet::Record;
@@ -9,7 +8,7 @@ use tokens::Token;
 // A record of a list: its token, or a dot where none was stored.
 fn record(t: Token, sink: Sink) -> Sink {
     if t.start < t.end {
-        return render::token(t.start, t.end, sink);
+        return crate::token(t.start, t.end, sink);
     }
     sink.put(b'.')
 }
@@ -68,7 +67,7 @@ fn list_told(
         tag_bytes,
         n,
     );
-    records(list, count, render::number(a, sink).put(b' '))
+    records(list, count, crate::number(a, sink).put(b' '))
 }
 
 // How many records a list takes: those that it has, or those that it says that it needs.

@@ -1,5 +1,4 @@
-// The calls on a sheet, each with its small answer by value.
-use crate::MOST;
+// The calls on a sheet that a question asks for, each with its small answer by value.
 use casework::field;
 use casework::find;
 use casework::first;
@@ -12,6 +11,9 @@ use sheet::Part;
 use sheet::Record;
 use tokens::Next;
 ghost use Prim.Native.Nat.{_≤_};
+
+// The most room of a buffer: what a line of 4,096 bytes can need.
+pub const MOST: usize = 4097;
 
 // What a look-up found: a number, a part of the text or of the tags, or a step of the token cursor.
 pub enum Found {
@@ -315,47 +317,5 @@ pub fn look(
         row_ends,
         tag_ends,
         tag_bytes,
-    )
-}
-
-// Writes the sentence into a room.
-pub fn write_line(
-    writer: u8,
-    r: Record,
-    text: &[u8],
-    types: &[u8],
-    boundaries: &[u8],
-    char_pos: &[u16],
-    byte_pos: &[u16],
-    row_ends: &[u16],
-    tag_ends: &[u16],
-    tag_bytes: &[u8],
-    room: &mut [u8],
-) -> Number {
-    if writer == b'T' {
-        return write::write_tokenized_text(
-            r,
-            text,
-            types,
-            boundaries,
-            char_pos,
-            byte_pos,
-            row_ends,
-            tag_ends,
-            tag_bytes,
-            room,
-        );
-    }
-    write::write_partial_annotation_text(
-        r,
-        text,
-        types,
-        boundaries,
-        char_pos,
-        byte_pos,
-        row_ends,
-        tag_ends,
-        tag_bytes,
-        room,
     )
 }
