@@ -1,80 +1,119 @@
-// Reads lines from standard input, each two form letters and a sentence line, and prints each line in the other form, or its refusal.
+// Reads lines from standard input, each two form letters and a sentence line, and prints each line in the other form, or its refusal. A call of the
+// system that fails is told on standard error, and ends the run.
+use libc::EINTR;
 use libc::STDIN_FILENO;
 use libc::STDOUT_FILENO;
-ghost use Prim.Native.Nat.{_≤_};
+use respelling::Call;
+use respelling::Stand;
+ghost use Prim.Native.Nat.{_+_, _≤_, _<_};
+ghost use mathlib.Core.Path.{_≡_};
+ghost use mathlib.Core.Bool.{true};
 ghost use lib.ListN.{length};
+ghost use Rattle.respelling.specs.Run.{Stands, Behind, ReadSome, WroteSome, goesOn, Went, Ran};
 
-// What stands between two turns: the bytes from `from` up to `to` of the input buffer are still to be used, the rest of a line is to be skipped or
-// not, the input has ended or not, and all is done or not.
-struct Stand {
-    from: usize,
-    to: usize,
-    skip: bool,
-    last: bool,
-    done: bool,
+// Says on standard error that the input could not be read, and why.
+fn say_input() {
+    os::fail(b"respell: standard input");
 }
 
-// Reads once behind the bytes that are held, and answers where they end then.
-fn read_more(input: &mut [u8], held: usize) -> usize
-    requires { ⌜ held ≤ length (now input) ⌝ }
-    ensures { λ r. ⌜ r ≤ length (now (input .exit)) ⌝ }
-{
-    let got = libc::read(STDIN_FILENO, &mut input[held..]);
-    held + io::count(got, &input[held..])
+// Says on standard error that the output could not be written, and why.
+fn say_output() {
+    os::fail(b"respell: standard output");
 }
 
-// Holds what is left of the input buffer, and reads more behind it; where nothing more comes, the input has ended.
-fn refill(input: &mut [u8], from: usize, to: usize, skip: bool) -> Stand
-    requires { ⌜ (from ≤ to) × (to ≤ length (now input)) ⌝ }
-    ensures { λ r. ⌜ (r .from ≤ r .to) × (r .to ≤ length (now (input .exit))) ⌝ }
+// Reads once into a buffer behind a place. A call that a signal interrupted is to be made again.
+fn read_behind(input: &mut [u8], to: usize) -> Call
+    requires { ⌜ to ≤ length (now input) ⌝ }
+    ensures { λ c. ⌜ Behind to (now (input .entry)) (c .moved) (now (input .exit)) ⌝ }
 {
-    let held = respelling::given::keep(input, from, to);
-    let end = read_more(input, held);
-    Stand {
-        from: 0,
-        to: end,
-        skip,
-        last: end == held,
-        done: false,
+    let got = libc::read(STDIN_FILENO, &mut input[to..]);
+    let again = os::errno() == EINTR;
+    let moved = io::count(got, &input[to..]);
+    Call {
+        moved,
+        failed: got < 0,
+        again,
     }
 }
 
-// Prints the answers to what is there, and reads more where nothing can be answered yet.
-fn turn(s: Stand, input: &mut [u8], out: &mut [u8]) -> Stand
+// Writes once some of the bytes given. A call that a signal interrupted is to be made again; one that takes nothing has failed.
+fn write_from(bytes: &[u8]) -> Call
+    ensures { λ c. ⌜ c .moved ≤ length (now (bytes .entry)) ⌝ }
+{
+    let got = libc::write(STDOUT_FILENO, bytes);
+    let again = (got < 0) & (os::errno() == EINTR);
+    let moved = io::count(got, bytes);
+    Call {
+        moved,
+        failed: got <= 0,
+        again,
+    }
+}
+
+// Reads once behind what is held, which is moved to the front of the buffer first.
+fn read_some(s: Stand, input: &mut [u8]) -> Stand
     requires { ⌜ (s .from ≤ s .to) × (s .to ≤ length (now input)) ⌝ }
-    ensures { λ r. ⌜ (r .from ≤ r .to) × (r .to ≤ length (now (input .exit))) ⌝ }
+    requires { ⌜ s .to ≤ s .from + 4099 ⌝ }
+    requires { ⌜ 4099 < length (now input) ⌝ }
+    ensures { λ r. ⌜ ReadSome s (now (input .entry)) r (now (input .exit)) ⌝ }
 {
-    let from = s.from;
-    let to = s.to;
-    let t = respelling::respell(&input[from..to], s.skip, s.last, out);
-    let wrote = t.wrote;
-    let is_written = io::write_all(STDOUT_FILENO, &out[..wrote]);
-    if is_written & (t.used == 0) & !s.last {
-        return refill(input, from, to, t.skip);
+    let m = respelling::given::keep(s, input);
+    let c = read_behind(input, m.to);
+    let r = respelling::given::after_read(m, c, input);
+    if r.failed {
+        say_input();
     }
-    Stand {
-        from: from + t.used,
-        to,
-        skip: t.skip,
-        last: s.last,
-        done: !is_written | (t.used == 0),
-    }
+    r
 }
 
-// A proved loop has to end, and nothing says that the input does. So the loop counts its turns down, from a number that no run uses up.
+// Writes once some of what is due.
+fn write_some(s: Stand, out: &[u8]) -> Stand
+    requires { ⌜ (s .put < s .wrote) × (s .wrote ≤ length (now out)) ⌝ }
+    ensures { λ r. ⌜ WroteSome s r ⌝ }
+{
+    let put = s.put;
+    let wrote = s.wrote;
+    let c = write_from(&out[put..wrote]);
+    let r = respelling::given::after_write(s, c);
+    if r.failed {
+        say_output();
+    }
+    r
+}
+
+// One move: what is due is written first, then what is held is answered, and where nothing can be answered more is read.
+fn turn(s: Stand, input: &mut [u8], out: &mut [u8]) -> Stand
+    requires { ⌜ Stands s (now input) (now out) ⌝ }
+    requires { ⌜ goesOn s ≡ true ⌝ }
+    requires { ⌜ 4099 < length (now input) ⌝ }
+    ensures { λ r. ⌜ Went s (now (input .entry)) (now (out .entry)) r (now (input .exit)) (now (out .exit)) ⌝ }
+{
+    if s.put < s.wrote {
+        return write_some(s, out);
+    }
+    if s.waits {
+        return read_some(s, input);
+    }
+    respelling::given::answer(s, input, out)
+}
+
+// Moves until a call has failed, or the input has ended and all is answered and written. A proved loop has to end, and nothing says that the input
+// does. So the loop counts its turns down, from a number that no run uses up.
+fn run(input: &mut [u8], out: &mut [u8]) -> Stand
+    requires { ⌜ 4099 < length (now input) ⌝ }
+    ensures { λ r. ⌜ Ran r (now (input .exit)) (now (out .exit)) ⌝ }
+{
+    let mut s = respelling::given::start();
+    let mut turns = u64::MAX;
+    while turns > 0 && respelling::given::goes(s) {
+        s = turn(s, input, out);
+        turns -= 1;
+    }
+    s
+}
+
 fn main() {
     let mut input = io::large_buffer();
     let mut out = io::large_buffer();
-    let mut stand = Stand {
-        from: 0,
-        to: 0,
-        skip: false,
-        last: false,
-        done: false,
-    };
-    let mut turns = u64::MAX;
-    while turns > 0 && !stand.done {
-        stand = turn(stand, &mut input, &mut out);
-        turns -= 1;
-    }
+    run(&mut input, &mut out);
 }

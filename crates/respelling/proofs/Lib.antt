@@ -7,3 +7,6 @@ pub mod Scan
 pub mod Steps
 pub mod Pieces
 pub mod Turns
+pub mod Calls
+pub mod Runs
+pub mod Went

@@ -8,7 +8,6 @@ use mathlib.Core.Bool.{Bool, true, false}
 use mathlib.Core.List.{List, [], _∷_, _++_, append-nil}
 use lib.Dec.{eqb}
 use lib.ListN.{length, take, drop}
-use lib.Seq.{take-length, drop-append-le, drop-append-add}
 use Rattle.laws.specs.If.{if_then_else_, if-true, if-false}
 use Rattle.respelling.specs.Respell.{before, lines}
 use Rattle.respelling.specs.Stream.{lineLen, pastLine}
@@ -53,40 +52,11 @@ same-byte : (b : ℕ) (s y : List ℕ) → (lineLen s < length s → lineLen (s 
 same-byte b s y i true e h = len-feed b (s ++ y) e ∙ sym (len-feed b s e)
 same-byte b s y i false e h = let p = len-byte b s e in len-byte b (s ++ y) e ∙ rw (p, i (omega arith))
 
-same-len : (s y : List ℕ) → lineLen s < length s → lineLen (s ++ y) ≡ lineLen s
+pub same-len : (s y : List ℕ) → lineLen s < length s → lineLen (s ++ y) ≡ lineLen s
 same-len [] y h = absurd (omega arith)
 same-len (b ∷ s) y h = same-byte b s y (same-len s y) (eqb b 10) refl h
 
-pub past-cut : (s y : List ℕ) → lineLen s < length s → pastLine (s ++ y) ≡ drop (lineLen s + 1) s ++ y
-unfolding pastLine
-past-cut s y h = rw (same-len s y h) (drop-append-le (lineLen s + 1) s y (omega arith))
-
 -- ---- a piece that has none
-pub len-within : (s : List ℕ) → lineLen s ≤ length s
-unfolding lineLen
-len-within [] = omega arith
-len-within (b ∷ s) = on (eqb b 10) refl (len-within s)
-  where
-    on : (t : Bool) → eqb b 10 ≡ t → lineLen s ≤ length s → lineLen (b ∷ s) ≤ suc (length s)
-    on true e h = omega (arith, len-feed b s e)
-    on false e h = omega (arith, len-byte b s e)
-
--- its bytes belong to one line
-more-byte : (b : ℕ) (s y : List ℕ) → (length s ≤ lineLen s → lineLen (s ++ y) ≡ length s + lineLen y) → (t : Bool) → eqb b 10 ≡ t
-    → length (b ∷ s) ≤ lineLen (b ∷ s) → lineLen (b ∷ (s ++ y)) ≡ suc (length s) + lineLen y
-more-byte b s y i true e h = absurd (omega (arith, len-feed b s e))
-more-byte b s y i false e h = let p = len-byte b s e in omega (arith, len-byte b (s ++ y) e, i (omega arith))
-
-more-len : (s y : List ℕ) → length s ≤ lineLen s → lineLen (s ++ y) ≡ length s + lineLen y
-more-len [] y h = sym (zero-add _)
-more-len (b ∷ s) y h = more-byte b s y (more-len s y) (eqb b 10) refl h
-
-pub past-open : (s y : List ℕ) → length s ≤ lineLen s → pastLine (s ++ y) ≡ pastLine y
-unfolding pastLine
-past-open s y h =
-    let e : length s + lineLen y + 1 ≡ length s + (lineLen y + 1) = omega arith in
-    rw (more-len s y h, e) (drop-append-add s y (lineLen y + 1))
-
 -- a byte that is no LF, and the bytes after it
 record NoFeed (b : ℕ) (s : List ℕ) : Type 0 where
   first : eqb b 10 ≡ false

@@ -2,10 +2,9 @@
 use crate::Turn;
 use crate::given::line::put_answer;
 ghost use mathlib.Core.Path.{_≡_};
-ghost use mathlib.Core.Bool.{true, false};
-ghost use Prim.Native.Nat.{_-_, _+_, _≤_};
+ghost use Prim.Native.Nat.{_-_, _≤_};
 ghost use lib.ListN.{length};
-ghost use Rattle.respelling.specs.Stream.{lineLen, skipped, opened, Stepped};
+ghost use Rattle.respelling.specs.Stream.{lineLen, turn, Stepped, Turned};
 ghost use Rattle.respelling.specs.Stream.{step as Stream·step};
 
 // The bytes before the first LF.
@@ -22,73 +21,44 @@ fn line_len(s: &[u8]) -> usize
     i
 }
 
-// Uses the rest of a line that has had its answer.
-fn skip_line(s: &[u8], at: usize) -> Turn
-    ensures { λ r. ⌜ r ≡ record { used = (skipped (now (s .entry))) .used; wrote = at; skip = (skipped (now (s .entry))) .skips } ⌝ }
+// Answers the first line of a piece, where its LF is there or the input ends with it, and the output has room for the longest answer.
+fn step(s: &[u8], last: bool, out: &mut [u8], at: usize) -> Turn
+    requires { ⌜ at ≤ length (now out) ⌝ }
+    ensures { λ r. ⌜ Stepped (Stream·step last (length (now (out .entry)) - at) (now (s .entry))) (now (out .entry)) at r (now (out .exit)) ⌝ }
 {
+    if out.len() - at < 8194 {
+        return Turn { used: 0, wrote: at };
+    }
     let n = line_len(s);
     if n < s.len() {
+        let used = n + 1;
         return Turn {
-            used: n + 1,
-            wrote: at,
-            skip: false,
+            used,
+            wrote: put_answer(&s[..n], out, at),
         };
     }
-    Turn {
-        used: s.len(),
-        wrote: at,
-        skip: true,
-    }
-}
-
-// Answers a line of which no LF is there, where that can be done.
-fn open_line(s: &[u8], last: bool, out: &mut [u8], at: usize) -> Turn
-    requires { ⌜ at + 8194 ≤ length (now out) ⌝ }
-    ensures { λ r. ⌜ Stepped (opened last (now (s .entry))) (now (out .entry)) at r (now (out .exit)) ⌝ }
-{
     if last & (0 < s.len()) {
         return Turn {
             used: s.len(),
             wrote: put_answer(s, out, at),
-            skip: false,
         };
     }
-    if 4098 < s.len() {
-        return Turn {
-            used: s.len(),
-            wrote: put_answer(s, out, at),
-            skip: true,
-        };
-    }
-    Turn {
-        used: 0,
-        wrote: at,
-        skip: false,
-    }
+    Turn { used: 0, wrote: at }
 }
 
-// One step on a piece of input.
-pub fn step(s: &[u8], skip: bool, last: bool, out: &mut [u8], at: usize) -> Turn
-    requires { ⌜ at ≤ length (now out) ⌝ }
-    ensures { λ r. ⌜ Stepped (Stream·step last skip (length (now (out .entry)) - at) (now (s .entry))) (now (out .entry)) at r (now (out .exit)) ⌝ }
+// Answers the lines of a piece, as far as they are whole and the output has room for the longest answer. `last` says that no piece follows. What is
+// not used is to be given again, with more behind it.
+pub fn respell(input: &[u8], last: bool, out: &mut [u8]) -> Turn
+    ensures { λ r. ⌜ Turned (turn last (length (now (out .entry))) (now (input .entry))) (now (out .entry)) r (now (out .exit)) ⌝ }
 {
-    if skip {
-        return skip_line(s, at);
+    let mut used = 0;
+    let mut wrote = 0;
+    loop {
+        let t = step(&input[used..], last, out, wrote);
+        used += t.used;
+        wrote = t.wrote;
+        if t.used == 0 {
+            return Turn { used, wrote };
+        }
     }
-    if out.len() - at < 8194 {
-        return Turn {
-            used: 0,
-            wrote: at,
-            skip: false,
-        };
-    }
-    let n = line_len(s);
-    if n < s.len() {
-        return Turn {
-            used: n + 1,
-            wrote: put_answer(&s[..n], out, at),
-            skip: false,
-        };
-    }
-    open_line(s, last, out, at)
 }

@@ -1,20 +1,20 @@
--- `respelling::respell` meets its contract. The invariant: what is used and written so far, with what is still to be done, is the whole turn. Assumes nothing.
+-- `respelling::given::stream::respell` meets its contract. The invariant: what is used and written so far, with what is still to be done, is the whole turn. Assumes nothing.
 use Prim.Native.Nat.{_-_, _+_, _≤_}
 use native.Mathlib.Omega.{arith}
 use borrow.Author.Needs.{needs}
 use lib.ListN.{length}
 use Rattle.respelling.proofs.Turns.{Going, go-start, step-ends, go-done, go-more}
-use Rattle.respelling.proofs.respell.Statement.{statement}
-use Rattle.respelling.proofs.respell.Tie as tie
+use Rattle.respelling.proofs.given.stream.respell.Statement.{statement}
+use Rattle.respelling.proofs.given.stream.respell.Tie as tie
 
 abbrev Inv-loop : tie.InvT-loop
-Inv-loop input skip last out₀ used₀ wrote₀ skips₀ out used wrote skips = Going last skip input out₀ out used wrote skips
+Inv-loop input last out₀ used₀ wrote₀ out used wrote = Going last input out₀ out used wrote
 
 abbrev μ-loop : tie.MeasureT-loop
-μ-loop input skip last out₀ used₀ wrote₀ skips₀ out used wrote skips = length input - used
+μ-loop input last out₀ used₀ wrote₀ out used wrote = length input - used
 
 loop-holds : tie.Need-loop-holds Inv-loop μ-loop
-loop-holds c = go-start _ _ _ _
+loop-holds c = go-start _ _ _
 
 sub-step : tie.Need-sub-step Inv-loop μ-loop
 sub-step c = search needs

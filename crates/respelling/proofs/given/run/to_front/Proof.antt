@@ -1,9 +1,9 @@
--- `respelling::given::keep` meets its contract. The invariant: the bytes from i on are left to move, and still stand behind n. Assumes nothing.
+-- `respelling::given::run::to_front` meets its contract. The invariant: the bytes from i on are left to move, and still stand behind n. Assumes nothing.
 use Prim.Native.Nat.{_-_}
 use borrow.Author.Needs.{needs}
 use Rattle.respelling.proofs.Keeps.{Keeping, keep-start, keep-more, keep-done}
-use Rattle.respelling.proofs.given.keep.Statement.{statement}
-use Rattle.respelling.proofs.given.keep.Tie as tie
+use Rattle.respelling.proofs.given.run.to_front.Statement.{statement}
+use Rattle.respelling.proofs.given.run.to_front.Tie as tie
 
 abbrev Inv-loop : tie.InvT-loop
 Inv-loop buf₀ from to i₀ n₀ buf i n = Keeping buf₀ from to buf i n
@@ -38,8 +38,8 @@ same-length c = search needs
 returns : tie.Need-returns Inv-loop μ-loop
 returns c = search keep-done
 
-pub keep-spec : {M : Type 1} → statement M
-keep-spec =
+pub to-front-spec : {M : Type 1} → statement M
+to-front-spec =
     tie.close
     (tie.spec
     Inv-loop
