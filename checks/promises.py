@@ -11,7 +11,7 @@ and each crate that leans on it, by crates.txt). Any other is public.
 
 - Each function stands in one row: a public one in a table of the section 'Public functions', an internal one in a table of the section
   'Internal'. The first column has the names, in backquotes, one or more to a row. A name in it that is no function is a fault.
-- A public function has no `requires`.
+- A public function has no `requires`, and an `ensures`. Its row says in the column 'uniqueness' that the equation settles it, or which law does.
 - An edit is cited as `crate/name`, in any table, and stands in crates/CRATE/must-fail or crates/CRATE/must-fail-further. Each edit
   that stands there is cited at least once. In a column whose heading speaks of edits, what parentheses hold in backquotes is an edit.
 - Where `(crate, Module)` is cited, crates/CRATE has specs/Module.antt or proofs/Module.antt, and a name in backquotes right before it
@@ -30,8 +30,9 @@ QUALIFIERS = r'(?:const\s+|unsafe\s+|extern\s+"C"\s+)*'
 class Function:
     """A `pub fn`: where it stands, and what it says."""
 
-    def __init__(self, name, modules, place, internal, assumes):
-        self.name, self.modules, self.place, self.internal, self.assumes = name, modules, place, internal, assumes
+    def __init__(self, place, internal, heading):
+        self.place, self.internal = place, internal
+        self.assumes, self.promises = (re.search(rf"\b{word}\b", heading) for word in ("requires", "ensures"))
 
 
 def plain(text):
@@ -114,7 +115,7 @@ def sources(faults):
                 if name in functions:
                     faults.append(f"{path}:{line}: `{name}` stands in {functions[name].place} already")
                 said = text[found.start() : heading(text, found.end())]
-                functions[name] = Function(name, modules, f"{path}:{line}", internal, bool(re.search(r"\brequires\b", said)))
+                functions[name] = Function(f"{path}:{line}", internal, said)
     return functions
 
 
@@ -165,11 +166,14 @@ def quoted(text):
 def compare_functions(rows, functions, faults):
     """The first columns of both sections against the sources."""
     listed = {}
-    for number, section, _, cells in rows:
+    for number, section, heads, cells in rows:
         if section not in (PUBLIC, INTERNAL):
             continue
         at = f"{PAGE}:{number}"
         names = quoted(cells[0])
+        once = dict(zip(heads, cells)).get("uniqueness", "")
+        if section == PUBLIC and not quoted(once) and not re.fullmatch("the equations?", once):
+            faults.append(f"{at}: the column 'uniqueness' says neither 'the equation' nor a law, in backquotes")
         if not names:
             faults.append(f"{at}: this row of '{section}' names no function in its first column")
         for name in names:
@@ -187,6 +191,8 @@ def compare_functions(rows, functions, faults):
             faults.append(f"{listed[name][0]}: `{name}` is {kind} ({f.place}): move it to a table of '{section}'")
         if f.assumes and not f.internal:
             faults.append(f"{f.place}: `{name}` is public and has a `requires`: take it away, or move the function to a module `given`")
+        if not f.promises and not f.internal:
+            faults.append(f"{f.place}: `{name}` is public and has no `ensures`: give it one, or move the function to a module `given`")
 
 
 def compare_edits(rows, faults):
