@@ -1,5 +1,18 @@
-"""Answers the cases on standard input by Python's own UTF-8 codec: `python3 expected.py < stdin > stdout`."""
+"""Makes `stdout` of `vectors` from its `stdin`; with --check tells whether it is what stands there.
+
+    python3 crates/vectors/expected.py            writes crates/vectors/stdout
+    python3 crates/vectors/expected.py --check    status 1 where it differs
+
+Where the answers come from: Python's own UTF-8 codec, which follows RFC 3629. Nothing is taken from what the program printed. The questions are the
+examples of RFC 3629, section 7, and bytes around each bound of its section 4.
+
+A case is a letter and hex digits. D: a place of one byte, then a text: the character that stands there, and its bytes. V: a text: how many of
+its bytes are UTF-8. E: a number of four bytes: the length and the bytes of its encoding. A line that starts with # is no case.
+"""
 import sys
+from pathlib import Path
+
+HERE = Path(__file__).resolve().parent
 
 
 def one(text):
@@ -40,5 +53,20 @@ def encode(data):
 
 KINDS = {"D": decode, "V": valid, "E": encode}
 
-for line in sys.stdin.read().splitlines():
-    print(line if line[:1] == "#" else f"{line} = {KINDS[line[0]](bytes.fromhex(line[1:]))}")
+
+def main():
+    lines = (HERE / "stdin").read_text().splitlines()
+    made = [line if line[:1] == "#" else f"{line} = {KINDS[line[0]](bytes.fromhex(line[1:]))}" for line in lines]
+    text = "".join(line + "\n" for line in made)
+    if sys.argv[1:] != ["--check"]:
+        (HERE / "stdout").write_text(text)
+    elif (HERE / "stdout").read_text() != text:
+        for ours, theirs in zip(made, (HERE / "stdout").read_text().splitlines()):
+            if ours != theirs:
+                print(f"the codec: {ours}\n   stdout: {theirs}")
+        sys.exit("crates/vectors/stdout is not what expected.py makes of stdin")
+    print(f"{sum(line[:1] != '#' for line in lines)} cases")
+
+
+if __name__ == "__main__":
+    main()

@@ -1,0 +1,185 @@
+"""Makes `stdout` of `damaged` from its `stdin`; with --check tells whether it is what stands there.
+
+    python3 crates/damaged/expected.py            writes crates/damaged/stdout
+    python3 crates/damaged/expected.py --check    status 1 where it differs
+
+Where the answers come from: document 01, read once more and by itself, its sections 'Characters and types', 'The sheet', 'Writing and tokens' and
+'Refusals by number'. Nothing is taken from what the program printed. A sheet is told by laying a sentence out: the sentence that
+the buffers spell, if they spell one, must lay out to those very buffers and to that record. Python's codec says what is UTF-8.
+
+A case is six fields: what is changed of the sheet (a letter, an index, a value), then the call and its two numbers. A line that starts with # is no case.
+The letters: t text, y types, m boundaries, c char positions, p byte positions, r row ends, e tag ends, g tag bytes: the element at the index is
+the value. N, B, C, K, G: that number of the record is the value. L: of the buffer with the index only so many elements are lent. - changes nothing.
+The calls: c and s character to byte and back, b boundary, t cell, u surface, m boundary set, r tags reset, p boundaries by so many of the scores -1, 1, 0, 0.
+"""
+import sys
+from pathlib import Path
+
+HERE = Path(__file__).resolve().parent
+MOST, MOST_TAGS = 4096, 65535
+LETTERS = "tymcpreg"  # the buffers, in document 01's order
+RECORD = "NBCKG"
+
+# Document 01: first, last, type; all else is 6.
+TYPES = [
+    ("30-39 FF10-FF19", 1),
+    ("41-5A 61-7A FF21-FF3A FF41-FF5A", 2),
+    ("3040-3096", 3),
+    ("30A0-30FA 30FC-30FF FF66-FF9F", 4),
+    ("3400-4DBF 4E00-9FFF F900-FAFF 20000-2A6DF 2A700-2B73F 2B740-2B81F 2B820-2CEAF 2F800-2FA1F", 5),
+]
+
+
+def type_of(char):
+    """A character's type."""
+    for ranges, kind in TYPES:
+        for bounds in ranges.split():
+            first, last = (int(bound, 16) for bound in bounds.split("-"))
+            if first <= ord(char) <= last:
+                return kind
+    return 6
+
+
+class Refused(Exception):
+    """A refusal: its number and its place."""
+
+
+def demand(held, number, place):
+    """Refuses where what is demanded does not hold."""
+    if not held:
+        raise Refused(number, place)
+
+
+class Sentence:
+    """A text, its boundaries, for each character its row of tags (an absent one is empty), and the columns."""
+
+    def __init__(self, text, marks, rows, columns):
+        self.text, self.marks, self.rows, self.columns = text, marks, rows, columns
+
+    def laid_out(self):
+        """The record and the eight buffers, as far as they are needed."""
+        starts, numbers = [], []
+        for i, char in enumerate(self.text):
+            starts.append(len(numbers))
+            numbers += [i] + [0] * (len(char.encode()) - 1)
+        tags = [tag for row in self.rows for tag in row]
+        row_ends = [sum(len(row) for row in self.rows[: i + 1]) for i in range(len(self.rows))]
+        tag_ends = [sum(len(tag.encode()) for tag in tags[: i + 1]) for i in range(len(tags))]
+        text, tag_bytes = self.text.encode(), "".join(tags).encode()
+        record = {"N": len(self.text), "B": len(text), "C": self.columns, "K": len(tags), "G": len(tag_bytes)}
+        kinds = [type_of(char) for char in self.text]
+        buffers = [list(text), kinds, self.marks, starts + [len(text)], numbers + [len(self.text)], row_ends, tag_ends, list(tag_bytes)]
+        return record, buffers
+
+    def is_one(self):
+        """What document 01 asks of a sentence, within the limits."""
+        record, _ = self.laid_out()
+        return (
+            record["N"] >= 1
+            and len(self.marks) == record["N"] - 1
+            and all(mark in (0, 1, 2) for mark in self.marks)
+            and len(self.rows) == record["N"]
+            and "\0" not in self.text + "".join(tag for row in self.rows for tag in row)
+            and all(len(row) <= self.columns and (not row or row[-1] != "") for row in self.rows)
+            and record["B"] <= MOST
+            and self.columns <= MOST
+            and record["K"] <= MOST_TAGS
+            and record["G"] <= MOST_TAGS
+        )
+
+
+def pieces(values, ends):
+    """The pieces of a list that end where told, one behind the other; what no ends can mean is no list of pieces."""
+    begins = [0] + ends[:-1]
+    if any(begin > end for begin, end in zip(begins, ends)) or (ends[-1] if ends else 0) != len(values):
+        raise ValueError
+    return [values[begin:end] for begin, end in zip(begins, ends)]
+
+
+def spelt(record, buffers):
+    """The sentence that a record and buffers are, or None."""
+    n, b, k, g = (record[name] for name in "NBKG")
+    rooms = [b, n, n - 1, n + 1, b + 1, n, k, g]
+    if n < 1 or any(len(buffer) < room for buffer, room in zip(buffers, rooms)):
+        return None
+    needed = [buffer[:room] for buffer, room in zip(buffers, rooms)]
+    text, _, marks, _, _, row_ends, tag_ends, tag_bytes = needed
+    try:
+        tags = [bytes(tag).decode() for tag in pieces(tag_bytes, tag_ends)]
+        found = Sentence(bytes(text).decode(), marks, pieces(tags, row_ends), record["C"])
+    except ValueError:  # no UTF-8, or ends that are none
+        return None
+    return found if found.is_one() and found.laid_out() == (record, needed) else None
+
+
+def answer(record, buffers, call, x, y):
+    """What a call answers, in the words that are printed."""
+    s = spelt(record, buffers)
+    demand(s, 13, 0)
+    n, b = record["N"], record["B"]
+    starts = [len(s.text[:i].encode()) for i in range(n + 1)]
+    if call == "c":
+        demand(x <= n, 14, x)
+        return [starts[x]]
+    if call == "s":
+        demand(x <= b and x in starts, 14, x)
+        return [starts.index(x)]
+    if call == "b":
+        demand(x < n - 1, 14, x)
+        return [s.marks[x]]
+    if call == "t":
+        demand(x < n and y < s.columns, 14, x)
+        cell = s.rows[x][y] if y < len(s.rows[x]) else ""
+        before = "".join(tag for row in s.rows[:x] for tag in row) + "".join(s.rows[x][:y])
+        return [len(before.encode()), len((before + cell).encode())] if cell else ["absent"]
+    if call == "u":
+        demand(x < y <= n, 14, x)
+        return [starts[x], starts[y]]
+    if call == "m":
+        demand(x < n - 1 and y <= 2, 14, x)
+        after = Sentence(s.text, s.marks[:x] + [y] + s.marks[x + 1 :], s.rows, s.columns)
+    elif call == "r":
+        demand(x <= MOST, 14, x)
+        after = Sentence(s.text, s.marks, [[] for _ in s.text], x)
+    elif call == "p":
+        scores = [-1, 1, 0, 0][:x]
+        demand(len(scores) == n - 1, 14, len(scores))
+        after = Sentence(s.text, [int(score > 0) for score in scores], [[] for _ in s.text], 0)
+    return after.laid_out()[0].values()
+
+
+def case(line):
+    """A case with its answer."""
+    letter, index, value, call, x, y = line.split(" ")
+    index, value, x, y = int(index), int(value), int(x), int(y)
+    # The sheet: `a` with the tag x, then あ with an absent tag and é, then `b` with none; a boundary of either kind; two columns.
+    record, buffers = Sentence("aあb", [0, 1], [["x"], ["", "é"], []], 2).laid_out()
+    if letter in LETTERS:
+        buffers[LETTERS.index(letter)][index] = value
+    elif letter in RECORD:
+        record[letter] = value
+    elif letter == "L":
+        buffers[index] = buffers[index][:value]
+    try:
+        told = " ".join(str(word) for word in answer(record, buffers, call, x, y))
+    except Refused as refusal:
+        told = "!{} {}".format(*refusal.args)
+    return f"{line} = {told}"
+
+
+def main():
+    lines = (HERE / "stdin").read_text().splitlines()
+    made = "".join((line if line.startswith("#") else case(line)) + "\n" for line in lines)
+    if sys.argv[1:] != ["--check"]:
+        (HERE / "stdout").write_text(made)
+    elif (HERE / "stdout").read_text() != made:
+        stands = (HERE / "stdout").read_text().splitlines()
+        for ours, theirs in zip(made.splitlines(), stands):
+            if ours != theirs:
+                print(f"document 01: {ours}\n     stdout: {theirs}")
+        sys.exit("crates/damaged/stdout is not what expected.py makes of stdin")
+    print(f"{sum(not line.startswith('#') for line in lines)} cases")
+
+
+if __name__ == "__main__":
+    main()
