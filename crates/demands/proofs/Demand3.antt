@@ -101,6 +101,6 @@ demand-3 = record {
       spells f f u w (m .s) (back f an x u a le ∙ m .reads-to) b ∙ sym (m .line-is);
   survives = λ x u s p a le.
       let i = spells partial tokenized x u s p a in
-      let d = definitions.survives x s p (subst (λ (w : List ℕ). length w ≤ 4096) i le) in
+      let d = definitions.survives partial x s p (subst (λ (w : List ℕ). length w ≤ 4096) i le) in
       (λ e. d .0 (ap (read tokenized) (sym i) ∙ e), λ g. ap (read tokenized) i ∙ d .1 g);
 }
