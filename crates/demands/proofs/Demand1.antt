@@ -3,10 +3,10 @@ use Prim.Native.Nat.{ℕ, _-_, _≤_, _<_}
 use mathlib.Core.Path.{_≡_, refl, sym, ap, subst, _∙_}
 use mathlib.Core.Logic.{_↔_, _⊎_, inl, inr}
 use mathlib.Core.Bool.{Bool, true, false, not, _&&_, _||_, false≢true}
-use mathlib.Core.List.{List, [], _∷_, _++_, map}
+use mathlib.Core.List.{List, [], _∷_, map}
 use native.Mathlib.Decide.{decLt}
 use native.Mathlib.Omega.{arith}
-use borrow.Author.Tests.{eq-eqb, lt-ltb, leb-true, ltb-true, ltb-false}
+use borrow.Author.Tests.{eq-eqb, lt-ltb, leb-true, ltb-false}
 use lib.Dec.{eqb, leb, ltb}
 use lib.IntN.{ℤ}
 use lib.ListN.{length, drop, length-take, length-drop}
@@ -51,7 +51,7 @@ use Rattle.passage.specs.Between.{Outcome, writes, formOf, between, answerOf, o
 use Rattle.passage.specs.Between.{refuses as no-line}
 use Rattle.convert.specs.Convert.{unknownForms, outOfRange, conversion, codeOf}
 use Rattle.exports.specs.Exports.{noReader, readFirst, readCode, readNumbers, hostAnswer, hostLeaves, HostReads, hostWriteOrder, numberCode, HostWrites, spanned, stepCode, stepSpan, HostSteps}
-use Rattle.demands.specs.Demand1.{Said, serves, refuses, ofAnswer, ofNumber, ofPart, ofNext, ofConverted, Allowed, exactly, inside as within, allows, oneOf, Answers, Settled, Blanked, formRefusals, lineRefusals, readRefusals, updateRefusals, askRefusals, fillRefusals, passRefusals, convertRefusals, Stands, Demand1}
+use Rattle.demands.specs.Demand1.{Said, serves, refuses, ofAnswer, ofNumber, ofPart, ofNext, ofConverted, Allowed, exactly, allows, oneOf, Answers, Settled, Blanked, formRefusals, lineRefusals, readRefusals, updateRefusals, askRefusals, fillRefusals, passRefusals, convertRefusals, Stands, Demand1}
 
 -- ---- one of the refusals
 eqb-self : (n : ℕ) → eqb n n ≡ true

@@ -1,6 +1,6 @@
 -- Demand 2 holds of the public functions: from their contracts and the laws of the definitions. Assumes nothing.
 use Prim.Native.Nat.{ℕ, _+_, _-_, _*_, _/_, _%_, _≤_, _<_}
-use mathlib.Core.Path.{_≡_, refl, sym, _∙_}
+use mathlib.Core.Path.{_≡_, refl, sym, ap, subst, _∙_}
 use mathlib.Core.Bool.{Bool, true, false}
 use mathlib.Core.List.{List, [], _∷_, map}
 use native.Mathlib.Omega.{arith}
@@ -14,9 +14,10 @@ use Rattle.utf8.proofs.Codec.{scalars-encodes, encodes-scalars}
 use Rattle.types.specs.TypeOf.{find, ranges, typeOf, sorted}
 use Rattle.types.specs.Blocks.{Right}
 use Rattle.types.proofs.Laws.{typed}
-use Rattle.sentence.specs.Sentence.{Tag, none, code, Sentence, text, marks, rows, table, count}
-use Rattle.sentence.specs.Reading.{Form, Annotated, sentence, refused, read}
+use Rattle.sentence.specs.Sentence.{Tag, none, code, Sentence, marks, rows, table, count}
+use Rattle.sentence.specs.Reading.{Form, Annotated, Result, sentence, refused, read}
 use Rattle.sentence.specs.Writing.{tokensFrom, nextToken, surface, written, needed, blank}
+use Rattle.sentence.specs.declared.Refusal.{Refusal}
 use Rattle.sentence.specs.Refusals.{refusal, verdict, readerOrder, updateOrder}
 use Rattle.sentence.specs.Worked as examples
 use Rattle.sentence.proofs.Shape.{read-formed}
@@ -26,7 +27,6 @@ use Rattle.sheet.specs.declared.Answer.the-variants as answer
 use Rattle.sheet.specs.declared.Number.{Number}
 use Rattle.sheet.specs.declared.Number.the-variants as number
 use Rattle.sheet.specs.declared.Part.{Part}
-use Rattle.sheet.specs.declared.Part.the-variants as part
 use Rattle.sheet.specs.Layout.{Buffers, recordOf, roomFor, lay, laid, Holds, spell}
 use Rattle.sheet.specs.Check.{isSheet}
 use Rattle.sheet.proofs.Held.{laid-holds, spelled, holds-once}
@@ -34,6 +34,8 @@ use Rattle.sheet.proofs.Exact.{is-sheet, holds-is, no-sheet}
 use Rattle.sheet.proofs.Look.{bounds}
 use Rattle.lookups.specs.Answers.{startAt, charToStrPos, strToCharPos, boundaryAt, cell, cellStart, tagPart, tagAt, surfacePart, surfaceAt}
 use Rattle.lookups.proofs.Parts.{cell-of-table, positions-back, surface-bytes, surface-fits, cell-here, cell-listed}
+use Rattle.changes.specs.Changes.{DefaultSet, defaultAnswer}
+use Rattle.changes.proofs.After.{default-holds}
 use Rattle.load.specs.Load.{lacks, readAnswer, readLeaves, ReadDoes}
 use Rattle.read.specs.Read.{updateAnswer, updateLeaves, UpdateDoes}
 use Rattle.load.proofs.Ways.{same-is}
@@ -62,6 +64,39 @@ updates : (f : Form) (x : List ℕ) (s : Sentence) (d e : Buffers) (a : Answer) 
     → roomFor (recordOf blank) d ≡ true → UpdateDoes (read f x) d a e → Taken s d a e
 unfolding updateAnswer updateLeaves updateOrder readerOrder verdict lacks if_then_else_
 updates f x s d e a i h k w = taken f x s d e a i h (w .answer-is ∙ rw (i, h, k)) (same-is (w .buffers-are) ∙ rw (i, h, k))
+
+serves : (d : Buffers) → roomFor (recordOf blank) d ≡ true → answer.Sentence (recordOf blank) ≡ defaultAnswer d
+unfolding defaultAnswer verdict if_then_else_
+serves d h = rw h
+
+-- the one-blank sentence, laid down where there is room for it
+blank-laid : (d : Buffers) → roomFor (recordOf blank) d ≡ true → Holds (recordOf blank) (laid blank d) blank
+blank-laid d h = default-holds d (answer.Sentence (recordOf blank)) (laid blank d) (recordOf blank) (set h) refl
+  where
+    set : roomFor (recordOf blank) d ≡ true → DefaultSet d (answer.Sentence (recordOf blank)) (laid blank d)
+    set k = record {
+      answer-is = serves d k;
+      text-is = refl;
+      types-is = refl;
+      boundaries-is = refl;
+      char-pos-is = refl;
+      byte-pos-is = refl;
+      row-ends-is = refl;
+      tag-ends-is = refl;
+      tag-bytes-is = refl;
+    }
+
+blanks : (x : Result) (d e : Buffers) (y : Refusal) → roomFor (recordOf blank) d ≡ true → UpdateDoes x d (answer.Refused y) e → Lies blank d e × Holds (recordOf blank) e blank
+unfolding updateAnswer updateLeaves updateOrder readerOrder verdict lacks if_then_else_
+blanks x d e y h w = subst (λ (b : Buffers). Lies blank d b × Holds (recordOf blank) b blank) (sym (same-is (w .buffers-are) ∙ on x (w .answer-is))) (lies blank d, blank-laid d h)
+  where
+    served : (s : Sentence) (b : Bool) → answer.Refused y ≡ (if b then answer.Refused (refusal 11 0) else answer.Sentence (recordOf s)) → (if b then laid blank d else laid s d) ≡ laid blank d
+    served s true a = refl
+    served s false a = absurd (let z : _≡_ {A = ℕ} 0 1 = cc in omega arith)
+
+    on : (x : Result) → answer.Refused y ≡ updateAnswer x d → updateLeaves x d ≡ laid blank d
+    on (refused n p) a = rw h
+    on (sentence s) a = rw h (served s (lacks d s) (rw h at a))
 
 refused-by : (f : Form) (x : List ℕ) (n p : ℕ) (d e : Buffers) (a : Answer) → read f x ≡ refused n p → ReadDoes (read f x) d a e → a ≡ answer.Refused (refusal n p)
 unfolding readAnswer readerOrder
@@ -154,6 +189,7 @@ pub demand-2 : Demand2
 demand-2 = record {
   reads = reads;
   updates = updates;
+  update-blanks = λ f x d e y h w. blanks (read f x) d e y h w;
   refuses = refused-by;
   holds-one = λ r d s t h k. holds-once h k;
   writes = writes;

@@ -14,6 +14,7 @@ use Rattle.types.specs.Blocks.{Right}
 use Rattle.sentence.specs.Sentence.{Tag, none, code, Sentence, text, marks, rows, count, table, charPositions, bytePositions}
 use Rattle.sentence.specs.Reading.{Form, Annotated, sentence, refused, read}
 use Rattle.sentence.specs.Writing.{tokensFrom, nextToken, surface, written, needed, blank}
+use Rattle.sentence.specs.declared.Refusal.{Refusal}
 use Rattle.sentence.specs.Refusals.{refusal}
 use Rattle.sentence.specs.Worked.{Case, worked, given}
 use Rattle.sheet.specs.declared.Record.{Record}
@@ -75,6 +76,9 @@ pub record Demand2 : Type 0 where
   -- and so in an update
   pub updates : (f : Form) (x : List ℕ) (s : Sentence) (d e : Buffers) (a : Answer) → read f x ≡ sentence s → roomFor (recordOf s) d ≡ true
       → roomFor (recordOf blank) d ≡ true → UpdateDoes (read f x) d a e → Taken s d a e
+  -- a refused update leaves the one-blank sentence
+  pub update-blanks : (f : Form) (x : List ℕ) (d e : Buffers) (y : Refusal) → roomFor (recordOf blank) d ≡ true
+      → UpdateDoes (read f x) d (answer.Refused y) e → Lies blank d e × Holds (recordOf blank) e blank
   -- a line that the grammar refuses is refused by that number at that place
   pub refuses : (f : Form) (x : List ℕ) (n p : ℕ) (d e : Buffers) (a : Answer) → read f x ≡ refused n p
       → ReadDoes (read f x) d a e → a ≡ answer.Refused (refusal n p)
