@@ -1,26 +1,27 @@
 -- Demand 1 holds of every public entry: from the contracts' definitions. Assumes nothing.
-use Prim.Native.Nat.{ℕ, _-_, _≤_, _<_}
+use Prim.Native.Nat.{ℕ, _+_, _-_, _≤_, _<_}
 use mathlib.Core.Path.{_≡_, refl, sym, ap, subst, _∙_}
 use mathlib.Core.Logic.{_↔_, _⊎_, inl, inr}
 use mathlib.Core.Bool.{Bool, true, false, not, _&&_, _||_, false≢true}
-use mathlib.Core.List.{List, [], _∷_, map}
+use mathlib.Core.List.{List, [], _∷_, _++_, map}
 use native.Mathlib.Decide.{decLt}
 use native.Mathlib.Omega.{arith}
-use borrow.Author.Tests.{eq-eqb, lt-ltb, leb-true, ltb-false}
+use borrow.Author.Tests.{eq-eqb, eqb-true, le-leb, lt-ltb, leb-true, ltb-false}
 use lib.Dec.{eqb, leb, ltb}
 use lib.IntN.{ℤ}
-use lib.ListN.{length, drop, length-take, length-drop}
-use Rattle.laws.specs.If.{if_then_else_, if-cases}
+use lib.ListN.{length, drop, getD, length-take, length-drop}
+use lib.Seq.{drop-at, drop-drop, getD-drop}
+use Rattle.laws.specs.If.{if_then_else_, if-cases, if-true}
 use Rattle.laws.specs.Put.{over as put}
 use Rattle.laws.proofs.Facts.{reads, or-is}
 use Rattle.utf8.specs.declared.Decoded.{Decoded}
 use Rattle.utf8.specs.declared.Decoded.the-variants as decoded
-use Rattle.utf8.specs.Utf8.{scalars, validPrefix, charAt, decodeAt, scalar, size}
+use Rattle.utf8.specs.Utf8.{scalars, validPrefix, charAt, decodeAt, scalar, width, encode, encodes, size}
 use Rattle.utf8.proofs.Codec.{valid-within, encode-decode, length-encode, length-encodes, encodes-scalars, width-small}
 use Rattle.types.specs.declared.ranges.Row.{Row}
 use Rattle.types.specs.TypeOf.{find, ranges, typeOf}
 use Rattle.sentence.specs.declared.Refusal.{Refusal}
-use Rattle.sentence.specs.Sentence.{Mark, Sentence}
+use Rattle.sentence.specs.Sentence.{Mark, word, Sentence}
 use Rattle.sentence.specs.Reading.{Form, raw, tokenized, partial, Kind, mark, slash, back, plain, kind, Place, start, behind, inTag, gap, State, at, escaped, Act, skip, letter, opens, ofTag, Step, go, stop, ordinary, inside, opening, step, advance, Run, whole, stopped, unfinished, ending, finish, push, follow, run, over, next, Parsed, parsed, add, gather, Result, sentence, refused, built, placed, read}
 use Rattle.sentence.specs.Writing.{written, blank}
 use Rattle.sentence.specs.Refusals.{refusal, Check, check, verdict, sheetOrder, readerOrder, updateOrder, hostOrder}
@@ -144,127 +145,179 @@ lays {s} {d} {e} qs cs q (answer.Refused x) h w =
     whole x = buffers (x .text-buf) (x .types-buf) (x .boundaries-buf) (x .char-pos-buf) (x .byte-pos-buf) (x .row-ends-buf) (x .tag-ends-buf) (x .tag-bytes-buf)
 
 -- ---- what a line is refused by
--- a number that is allowed at every byte of a line, and one that is allowed at its end
-abbrev Inside : Form → ℕ → Type 0
-Inside f e = (p m : ℕ) → p < m → oneOf (formRefusals f m) (refusal e p) ≡ true
+-- a number that is allowed where a character stands, of which one of a single byte is that byte
+abbrev AtChar : Form → ℕ → ℕ → Type 0
+AtChar f c e = (x : List ℕ) (p : ℕ) → p < length x → (c ≤ 0x7F → getD x p 0 ≡ c) → oneOf (formRefusals f x) (refusal e p) ≡ true
 
+-- and one that is allowed at a line's end
 abbrev AtEnd : Form → ℕ → Type 0
-AtEnd f e = (m : ℕ) → oneOf (formRefusals f m) (refusal e m) ≡ true
+AtEnd f e = (x : List ℕ) → oneOf (formRefusals f x) (refusal e (length x)) ≡ true
 
-nul : (f : Form) → Inside f 4
-unfolding oneOf allows formRefusals
-nul raw p m h = rw (lt-ltb p m h)
-nul tokenized p m h = rw (lt-ltb p m h)
-nul partial p m h = rw (lt-ltb p m h)
+is-byte : (x : List ℕ) (p c b : ℕ) → c ≡ b → b ≤ 0x7F → (c ≤ 0x7F → getD x p 0 ≡ c) → eqb (getD x p 0) b ≡ true
+is-byte x p c b e h g = eq-eqb (getD x p 0) b (g (omega arith) ∙ e)
 
-space-first : Inside tokenized 5
+nul : (f : Form) (c : ℕ) → c ≡ 0 → AtChar f c 4
 unfolding oneOf allows formRefusals
-space-first p m h = rw (lt-ltb p m h)
+nul raw c e x p h g = rw (lt-ltb p (length x) h, is-byte x p c 0 e (omega arith) g)
+nul tokenized c e x p h g = rw (lt-ltb p (length x) h, is-byte x p c 0 e (omega arith) g)
+nul partial c e x p h g = rw (lt-ltb p (length x) h, is-byte x p c 0 e (omega arith) g)
 
-space-again : Inside tokenized 6
+space-first : (c : ℕ) → c ≡ 32 → AtChar tokenized c 5
 unfolding oneOf allows formRefusals
-space-again p m h = rw (lt-ltb p m h)
+space-first c e x p h g = rw (lt-ltb p (length x) h, is-byte x p c 32 e (omega arith) g)
 
-slash-first : Inside tokenized 7
+space-again : (c : ℕ) → c ≡ 32 → AtChar tokenized c 6
 unfolding oneOf allows formRefusals
-slash-first p m h = rw (lt-ltb p m h)
+space-again c e x p h g = rw (lt-ltb p (length x) h, is-byte x p c 32 e (omega arith) g)
 
-bad-mark : Inside partial 9
+slash-first : (c : ℕ) → c ≡ 47 → AtChar tokenized c 7
 unfolding oneOf allows formRefusals
-bad-mark p m h = rw (lt-ltb p m h)
+slash-first c e x p h g = rw (lt-ltb p (length x) h, is-byte x p c 47 e (omega arith) g)
+
+bad-mark : (c : ℕ) → AtChar partial c 9
+unfolding oneOf allows formRefusals
+bad-mark c x p h g = rw (lt-ltb p (length x) h)
 
 no-text : (f : Form) → AtEnd f 3
 unfolding oneOf allows formRefusals
-no-text raw m = rw (eqb-self m)
-no-text tokenized m = rw (eqb-self m)
-no-text partial m = rw (eqb-self m)
+no-text raw x = rw (eqb-self (length x))
+no-text tokenized x = rw (eqb-self (length x))
+no-text partial x = rw (eqb-self (length x))
 
 no-end : (f : Form) → AtEnd f (unfinished f)
 unfolding oneOf allows formRefusals unfinished
-no-end raw m = rw (eqb-self m)
-no-end tokenized m = rw (eqb-self m)
-no-end partial m = rw (eqb-self m)
+no-end raw x = rw (eqb-self (length x))
+no-end tokenized x = rw (eqb-self (length x))
+no-end partial x = rw (eqb-self (length x))
 
-abbrev Stops : Form → Step → Type 0
-Stops f (go σ a) = Unit {0}
-Stops f (stop e) = Inside f e
+-- the kinds of the tokenized form, by their characters
+kind-mark : (c : ℕ) (m : Mark) → kind tokenized c ≡ mark m → c ≡ 32
+unfolding kind if_then_else_
+kind-mark c m = on (eqb c 32) refl (eqb c 47) (eqb c 92)
+  where
+    on : (b : Bool) → eqb c 32 ≡ b → (d e : Bool) → (if b then mark word else if d then slash else if e then back else plain) ≡ mark m → c ≡ 32
+    on true q d e h = eqb-true c 32 q
+    on false q true e h = absurd (let z : _≡_ {A = ℕ} 0 1 = cc in omega arith)
+    on false q false true h = absurd (let z : _≡_ {A = ℕ} 0 1 = cc in omega arith)
+    on false q false false h = absurd (let z : _≡_ {A = ℕ} 0 1 = cc in omega arith)
 
--- of a line of m bytes
-abbrev Ran : Form → ℕ → Run → Type 0
-Ran f m (whole l) = Unit {0}
-Ran f m (stopped e left) = oneOf (formRefusals f m) (refusal e (m - left)) ≡ true
+kind-slash : (c : ℕ) → kind tokenized c ≡ slash → c ≡ 47
+unfolding kind if_then_else_
+kind-slash c = on (eqb c 32) (eqb c 47) refl (eqb c 92)
+  where
+    on : (b d : Bool) → eqb c 47 ≡ d → (e : Bool) → (if b then mark word else if d then slash else if e then back else plain) ≡ slash → c ≡ 47
+    on true d q e h = absurd (let z : _≡_ {A = ℕ} 0 1 = cc in omega arith)
+    on false true q e h = eqb-true c 47 q
+    on false false q true h = absurd (let z : _≡_ {A = ℕ} 0 1 = cc in omega arith)
+    on false false q false h = absurd (let z : _≡_ {A = ℕ} 0 1 = cc in omega arith)
 
-ordinary-stops : (f : Form) (p : Place) (c : ℕ) → Stops f (ordinary f p c)
+-- where a step at the character c stops
+abbrev Stops : Form → ℕ → Step → Type 0
+Stops f c (go σ a) = Unit {0}
+Stops f c (stop e) = AtChar f c e
+
+-- of the line x
+abbrev Ran : Form → List ℕ → Run → Type 0
+Ran f x (whole l) = Unit {0}
+Ran f x (stopped e left) = oneOf (formRefusals f x) (refusal e (length x - left)) ≡ true
+
+ordinary-stops : (f : Form) (p : Place) (c : ℕ) → Stops f c (ordinary f p c)
 unfolding ordinary
 ordinary-stops f start c = tt
 ordinary-stops f (gap m) c = tt
 ordinary-stops f inTag c = tt
 ordinary-stops raw behind c = tt
 ordinary-stops tokenized behind c = tt
-ordinary-stops partial behind c = bad-mark
+ordinary-stops partial behind c = bad-mark c
 
-inside-stops : (f : Form) (p : Place) (k : Kind) (c : ℕ) → Stops f (inside f p k c)
+inside-stops : (f : Form) (p : Place) (k : Kind) (c : ℕ) → Stops f c (inside f p k c)
 unfolding inside
 inside-stops f p (mark m) c = tt
 inside-stops f p slash c = tt
 inside-stops f p back c = tt
 inside-stops f p plain c = ordinary-stops f p c
 
-opening-stops : (e : ℕ) (p : Place) (k : Kind) (c : ℕ) → Inside tokenized e → Stops tokenized (opening e p k c)
+opening-stops : (e : ℕ) (p : Place) (k : Kind) (c : ℕ) → kind tokenized c ≡ k → (c ≡ 32 → AtChar tokenized c e) → Stops tokenized c (opening e p k c)
 unfolding opening
-opening-stops e p (mark m) c h = h
-opening-stops e p slash c h = slash-first
-opening-stops e p back c h = tt
-opening-stops e p plain c h = ordinary-stops tokenized p c
+opening-stops e p (mark m) c i h = h (kind-mark c m i)
+opening-stops e p slash c i h = slash-first c (kind-slash c i)
+opening-stops e p back c i h = tt
+opening-stops e p plain c i h = ordinary-stops tokenized p c
 
-step-stops : (f : Form) (σ : State) (k : Kind) (c : ℕ) → Stops f (step f σ k c)
+step-stops : (f : Form) (σ : State) (k : Kind) (c : ℕ) → kind f c ≡ k → Stops f c (step f σ k c)
 unfolding step
-step-stops f (escaped p) k c = ordinary-stops f p c
-step-stops f (at behind) k c = inside-stops f behind k c
-step-stops f (at inTag) k c = inside-stops f inTag k c
-step-stops raw (at start) k c = ordinary-stops raw start c
-step-stops raw (at (gap m)) k c = ordinary-stops raw (gap m) c
-step-stops partial (at start) k c = ordinary-stops partial start c
-step-stops partial (at (gap m)) k c = ordinary-stops partial (gap m) c
-step-stops tokenized (at start) k c = opening-stops 5 start k c space-first
-step-stops tokenized (at (gap m)) k c = opening-stops 6 (gap m) k c space-again
+step-stops f (escaped p) k c i = ordinary-stops f p c
+step-stops f (at behind) k c i = inside-stops f behind k c
+step-stops f (at inTag) k c i = inside-stops f inTag k c
+step-stops raw (at start) k c i = ordinary-stops raw start c
+step-stops raw (at (gap m)) k c i = ordinary-stops raw (gap m) c
+step-stops partial (at start) k c i = ordinary-stops partial start c
+step-stops partial (at (gap m)) k c i = ordinary-stops partial (gap m) c
+step-stops tokenized (at start) k c i = opening-stops 5 start k c i (space-first c)
+step-stops tokenized (at (gap m)) k c i = opening-stops 6 (gap m) k c i (space-again c)
 
-advance-stops : (f : Form) (σ : State) (c : ℕ) → Stops f (advance f σ c)
+advance-stops : (f : Form) (σ : State) (c : ℕ) → Stops f c (advance f σ c)
 unfolding advance
-advance-stops f σ c = if-cases (Stops f) (eqb c 0) _ _ (λ e. nul f) (λ e. step-stops f σ (kind f c) c)
+advance-stops f σ c = if-cases (Stops f c) (eqb c 0) _ _ (λ e. nul f c (eqb-true c 0 e)) (λ e. step-stops f σ (kind f c) c refl)
 
-at-end : (f : Form) (e m : ℕ) → AtEnd f e → oneOf (formRefusals f m) (refusal e (m - 0)) ≡ true
-at-end f e m h = let z : m - 0 ≡ m = omega arith in rw z (h m)
+at-end : (f : Form) (e : ℕ) (x : List ℕ) → AtEnd f e → oneOf (formRefusals f x) (refusal e (length x - 0)) ≡ true
+at-end f e x h = let z : length x - 0 ≡ length x = omega arith in rw z (h x)
 
-ending-ran : (f : Form) (m : ℕ) (p : Place) → Ran f m (ending f p)
+ending-ran : (f : Form) (x : List ℕ) (p : Place) → Ran f x (ending f p)
 unfolding ending
-ending-ran f m start = at-end f 3 m (no-text f)
-ending-ran f m behind = tt
-ending-ran f m inTag = tt
-ending-ran f m (gap k) = at-end f (unfinished f) m (no-end f)
+ending-ran f x start = at-end f 3 x (no-text f)
+ending-ran f x behind = tt
+ending-ran f x inTag = tt
+ending-ran f x (gap k) = at-end f (unfinished f) x (no-end f)
 
-push-ran : (f : Form) (m : ℕ) (a : Act) (r : Run) → Ran f m r → Ran f m (push a r)
+push-ran : (f : Form) (x : List ℕ) (a : Act) (r : Run) → Ran f x r → Ran f x (push a r)
 unfolding push
-push-ran f m a (whole l) h = tt
-push-ran f m a (stopped e left) h = h
-
-follow-ran : (f : Form) (m : ℕ) (s : Step) (on : State → Run) (left : ℕ) → 1 ≤ left → left ≤ m → Stops f s → ((σ : State) → Ran f m (on σ)) → Ran f m (follow s on left)
-unfolding follow
-follow-ran f m (go σ a) on left some few h k = push-ran f m a (on σ) (k σ)
-follow-ran f m (stop e) on left some few h k = h (m - left) m (omega arith)
+push-ran f x a (whole l) h = tt
+push-ran f x a (stopped e left) h = h
 
 -- each character takes a byte
-sized : (c : ℕ) (x : List ℕ) → (1 ≤ size (c ∷ x)) × (size x ≤ size (c ∷ x))
+sized : (c : ℕ) (x : List ℕ) → 1 ≤ size (c ∷ x)
 unfolding size
 sized c x = omega (arith, width-small c)
 
-run-ran : (f : Form) (m : ℕ) (σ : State) (x : List ℕ) → size x ≤ m → Ran f m (run f σ x)
+-- the characters y are what is left of the line x
+record Remains (x y : List ℕ) : Type 0 where
+  few : size y ≤ length x
+  bytes : drop (length x - size y) x ≡ encodes y
+
+one-byte : (c : ℕ) (x : List ℕ) → c ≤ 0x7F → getD (encode c ++ x) 0 0 ≡ c
+unfolding encode
+one-byte c x h = rw (if-true _ _ _ (le-leb c 0x7F h))
+
+first-byte : (x y : List ℕ) (c : ℕ) → Remains x (c ∷ y) → c ≤ 0x7F → getD x (length x - size (c ∷ y)) 0 ≡ c
+unfolding encodes
+first-byte x y c l h =
+    let n : length x - size (c ∷ y) + 0 ≡ length x - size (c ∷ y) = omega arith in
+    rw n at (sym (getD-drop (length x - size (c ∷ y)) x 0 0) ∙ ap (λ (z : List ℕ). getD z 0 0) (l .bytes) ∙ one-byte c (encodes y) h)
+
+left-next : (x y : List ℕ) (c : ℕ) → Remains x (c ∷ y) → Remains x y
+unfolding encodes size
+left-next x y c l =
+    let f = l .few in
+    let n : length x - (width c + size y) + width c ≡ length x - size y = omega arith in
+    record {
+      few = omega arith;
+      bytes =
+          ap (λ (k : ℕ). drop k x) (sym n) ∙ sym (drop-drop (width c) (length x - (width c + size y)) x) ∙ ap (drop (width c)) (l .bytes)
+          ∙ drop-at (encode c) (encodes y) (width c) (length-encode c);
+    }
+
+follow-ran : (f : Form) (x y : List ℕ) (c : ℕ) (s : Step) (on : State → Run) → Remains x (c ∷ y) → Stops f c s → ((σ : State) → Ran f x (on σ))
+    → Ran f x (follow s on (size (c ∷ y)))
+unfolding follow
+follow-ran f x y c (go σ a) on l h k = push-ran f x a (on σ) (k σ)
+follow-ran f x y c (stop e) on l h k = h x (length x - size (c ∷ y)) (omega (arith, sized c y, l .few)) (first-byte x y c l)
+
+run-ran : (f : Form) (x : List ℕ) (σ : State) (y : List ℕ) → Remains x y → Ran f x (run f σ y)
 unfolding run finish
-run-ran f m (at p) [] le = ending-ran f m p
-run-ran f m (escaped p) [] le = ending-ran f m p
-run-ran f m σ (c ∷ x) le =
-    let z = sized c x in
-    follow-ran f m (advance f σ c) _ _ (z .0) le (advance-stops f σ c) (λ τ. run-ran f m τ x (omega (arith, z .1)))
+run-ran f x (at p) [] l = ending-ran f x p
+run-ran f x (escaped p) [] l = ending-ran f x p
+run-ran f x σ (c ∷ y) l = follow-ran f x y c (advance f σ c) _ l (advance-stops f σ c) (λ τ. run-ran f x τ y (left-next x y c l))
 
 -- ---- what is read to its end has text
 -- before any text, or behind a boundary
@@ -369,10 +422,10 @@ unfolding built
 built-told qs (parsed t ts n over) h = absurd h
 built-told qs (parsed t ts n (next k s)) h = tt
 
-placed-told : (f : Form) (m : ℕ) (r : Run) → Ran f m r → SomeRun r → Told (formRefusals f m) (placed m r)
+placed-told : (f : Form) (x : List ℕ) (r : Run) → Ran f x r → SomeRun r → Told (formRefusals f x) (placed (length x) r)
 unfolding placed
-placed-told f m (whole l) h k = built-told (formRefusals f m) (gather l) k
-placed-told f m (stopped e left) h k = h
+placed-told f x (whole l) h k = built-told (formRefusals f x) (gather l) k
+placed-told f x (stopped e left) h k = h
 
 one-told : (n p : ℕ) → Told (exactly n p ∷ []) (refused n p)
 unfolding oneOf allows
@@ -384,16 +437,18 @@ unfolding read lineRefusals if_then_else_
 read-told f x = long (ltb 4096 (length x))
   where
     bad : (b : Bool) → ltb (validPrefix x) (length x) ≡ b
-        → Told (if b then exactly 2 (validPrefix x) ∷ [] else formRefusals f (length x))
+        → Told (if b then exactly 2 (validPrefix x) ∷ [] else formRefusals f x)
         (if b then refused 2 (validPrefix x) else placed (length x) (run f (at start) (scalars x)))
     bad true e = one-told 2 (validPrefix x)
     bad false e =
         let v : validPrefix x ≡ length x = omega (arith, ltb-false (validPrefix x) (length x) e, valid-within x) in
         let n : size (scalars x) ≡ length x = sym (length-encodes (scalars x)) ∙ ap length (encodes-scalars x v) in
-        placed-told f (length x) (run f (at start) (scalars x)) (run-ran f (length x) (at start) (scalars x) (omega arith)) (run-some f (at start) (scalars x) tt)
+        let z : length x - size (scalars x) ≡ 0 = omega arith in
+        let l : Remains x (scalars x) = record { few = omega arith; bytes = rw z (sym (encodes-scalars x v)) } in
+        placed-told f x (run f (at start) (scalars x)) (run-ran f x (at start) (scalars x) l) (run-some f (at start) (scalars x) tt)
 
     long : (b : Bool)
-        → Told (if b then exactly 1 4096 ∷ [] else if ltb (validPrefix x) (length x) then exactly 2 (validPrefix x) ∷ [] else formRefusals f (length x))
+        → Told (if b then exactly 1 4096 ∷ [] else if ltb (validPrefix x) (length x) then exactly 2 (validPrefix x) ∷ [] else formRefusals f x)
         (if b then refused 1 4096 else if ltb (validPrefix x) (length x) then refused 2 (validPrefix x) else placed (length x) (run f (at start) (scalars x)))
     long true = one-told 1 4096
     long false = bad (ltb (validPrefix x) (length x)) refl

@@ -2,19 +2,20 @@
 use Prim.Native.Nat.{ℕ, _+_, _-_, _≤_}
 use mathlib.Core.Path.{_≡_, refl, sym, ap, subst, _∙_}
 use mathlib.Core.Logic.{_↔_}
-use mathlib.Core.Bool.{true}
-use mathlib.Core.List.{List}
+use mathlib.Core.Bool.{Bool, true, false}
+use mathlib.Core.List.{List, _++_}
 use native.Mathlib.Omega.{arith}
 use borrow.Author.Tests.{le-ltb}
-use lib.ListN.{length, replicate, length-replicate}
+use lib.Dec.{ltb}
+use lib.ListN.{length, take, drop, replicate, length-replicate}
 use lib.Seq.{take-append-seam}
 use Rattle.laws.specs.If.{if_then_else_}
 use Rattle.laws.specs.Put.{over}
 use Rattle.laws.proofs.Facts.{reads}
 use Rattle.sentence.specs.Sentence.{Sentence, Agree, Formed}
-use Rattle.sentence.specs.Reading.{Form, Annotated, tokenized, partial, sentence, read}
+use Rattle.sentence.specs.Reading.{Form, Annotated, tokenized, partial, Result, sentence, refused, read}
 use Rattle.sentence.specs.Writing.{written, needed}
-use Rattle.sentence.specs.Refusals.{verdict, readerOrder}
+use Rattle.sentence.specs.Refusals.{verdict, readerOrder, hostOrder}
 use Rattle.sentence.proofs.Shape.{read-formed}
 use Rattle.sentence.proofs.Demand3 as definitions
 use Rattle.sheet.specs.declared.Record.{Record}
@@ -29,6 +30,10 @@ use Rattle.load.proofs.Ways.{same-self, same-is}
 use Rattle.load.proofs.Laws.{holding}
 use Rattle.write.specs.Answers.{writeOrder}
 use Rattle.write.proofs.Laws.{took}
+use Rattle.passage.specs.declared.Converted.{Converted}
+use Rattle.passage.specs.declared.Converted.the-variants as converted
+use Rattle.passage.specs.Between.{Outcome, writes, refuses, formOf, between, answerOf, outputOf, Converts}
+use Rattle.convert.specs.Convert.{unknownForms, outOfRange, conversion}
 use Rattle.demands.specs.Demand3.{Spelt, Respelt, Changed, boundary-set, tags-reset, predicted, Tokenwise, Demand3}
 
 -- ---- sheets
@@ -89,6 +94,37 @@ back f an x u h le =
 
 back-partial : (f : Form) (x u : List ℕ) → Respelt f partial x u → length u ≤ 4096 → read partial u ≡ read f x
 back-partial f x u h le = let m = means f partial x u h in partial-back (m .s) u (m .formed) (m .line-is) le ∙ sym (m .reads-to)
+
+-- ---- the conversion
+module _ (g : Form) (room place end : ℕ) where
+  -- what comes of a line that reads to r, by whether a form is unknown and a number out of range
+  abbrev comes : Bool → Bool → Result → Outcome
+  comes unknown outside r =
+      hostOrder refuses unknown outside (λ (s : Sentence). ltb room (needed g s)) (λ (s : Sentence). needed g s) (λ (s : Sentence). writes (written g s)) r
+
+  -- an end that is answered is that of a written line
+  comes-written : (unknown outside : Bool) (r : Result) (s : Sentence) → r ≡ sentence s → converted.Wrote end ≡ answerOf place (comes unknown outside r)
+      → comes unknown outside r ≡ writes (written g s)
+  unfolding hostOrder verdict if_then_else_ answerOf
+  comes-written unknown outside (refused n p) s i e = absurd (let z : _≡_ {A = ℕ} 0 1 = cc in omega arith)
+  comes-written true outside (sentence t) s i e = absurd (let z : _≡_ {A = ℕ} 0 1 = cc in omega arith)
+  comes-written false true (sentence t) s i e = absurd (let z : _≡_ {A = ℕ} 0 1 = cc in omega arith)
+  comes-written false false (sentence t) s i e = let k : t ≡ s = cc in on (ltb room (needed g t)) e ∙ rw k
+    where
+      on : (b : Bool) → converted.Wrote end ≡ answerOf place (if b then refuses (record { number = 12; place = needed g t }) else writes (written g t))
+          → (if b then refuses (record { number = 12; place = needed g t }) else writes (written g t)) ≡ writes (written g t)
+      on true a = absurd (let z : _≡_ {A = ℕ} 0 1 = cc in omega arith)
+      on false a = refl
+
+-- it puts the written line of the sentence that is read
+converts : (reader writer : ℕ) (x u out out′ : List ℕ) (place end : ℕ) (s : Sentence) → read (formOf reader) x ≡ sentence s → u ≡ written (formOf writer) s
+    → Converts (λ (c : Converted). c) (conversion reader writer x (length out) place) place out (converted.Wrote end) out′
+    → (end ≡ place + length u) × (out′ ≡ take place out ++ over u (drop place out))
+unfolding conversion between answerOf outputOf
+converts reader writer x u out out′ place end s i e w =
+    let k = comes-written (formOf writer) (length out - place) place end (unknownForms reader writer) (outOfRange (length out) place) (read (formOf reader) x) s i (w .answer) in
+    let a : converted.Wrote end ≡ converted.Wrote (place + length u) = w .answer ∙ rw (k, e) in
+    (cc a, w .output ∙ rw (k, e))
 
 -- ---- there are such trips
 -- room for a sentence, of zeros
@@ -153,6 +189,8 @@ demand-3 = record {
       let i = line-of f tokenized x u s p a in
       line-of tokenized tokenized u w s (survives s u (read-formed f x s p .0) i le .1 k) b ∙ sym i;
   writes-once = λ f g x u w a b. let m = means f g x u a in line-of f g x w (m .s) (m .reads-to) b ∙ sym (m .line-is);
+  converts = λ reader writer x u out out′ place end h w.
+      let m = means (formOf reader) (formOf writer) x u h in converts reader writer x u out out′ place end (m .s) (m .reads-to) (m .line-is) w;
   sheet-canonical = λ r q d e s t u v h k a b.
       told-apart s t u v (h .formed) (k .formed) (spells partial r d s u h a) (spells partial q e t v k b);
   sheet-reads-back = λ r d s u h a le. partial-back s u (h .formed) (spells partial r d s u h a) le;

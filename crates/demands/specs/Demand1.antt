@@ -7,7 +7,7 @@ use mathlib.Core.Bool.{Bool, true, false, _&&_, _||_}
 use mathlib.Core.List.{List, [], _∷_}
 use lib.Dec.{eqb, ltb}
 use lib.IntN.{ℤ}
-use lib.ListN.{length}
+use lib.ListN.{length, getD}
 use Rattle.laws.specs.If.{if_then_else_}
 use Rattle.utf8.specs.declared.Decoded.{Decoded}
 use Rattle.utf8.specs.declared.Decoded.the-variants as decoded
@@ -67,14 +67,16 @@ unfoldable pub ofConverted : Converted → Said
 ofConverted (converted.Wrote e) = serves
 ofConverted (converted.Refused x) = refuses x
 
--- what is allowed: a number at one place, or at a byte below a length
+-- what is allowed: a number at one place, at any byte of a line, or at one that is the byte b
 pub data Allowed : Type 0 where
   exactly : ℕ → ℕ → Allowed
-  inside : ℕ → ℕ → Allowed
+  inside : ℕ → List ℕ → Allowed
+  at-byte : ℕ → ℕ → List ℕ → Allowed
 
 unfoldable pub allows : Allowed → Refusal → Bool
-allows (exactly n p) x = eqb (x .number) n && eqb (x .place) p
-allows (inside n m) x = eqb (x .number) n && ltb (x .place) m
+allows (exactly n p) y = eqb (y .number) n && eqb (y .place) p
+allows (inside n x) y = eqb (y .number) n && ltb (y .place) (length x)
+allows (at-byte n b x) y = eqb (y .number) n && (ltb (y .place) (length x) && eqb (getD x (y .place) 0) b)
 
 -- a refusal is one of these
 unfoldable pub oneOf : List Allowed → Refusal → Bool
@@ -96,18 +98,19 @@ abbrev pub Blanked : List Allowed → Said → Buffers → Buffers → Type 0
 Blanked qs serves d e = Unit {0}
 Blanked qs (refuses x) d e = (oneOf qs x ≡ true) × (e ≡ (if lacks d blank then d else laid blank d))
 
--- a line of m bytes, UTF-8 and not too long, is refused in each form by these: at its end, or at one of its bytes
-unfoldable pub formRefusals : Form → ℕ → List Allowed
-formRefusals raw m = exactly 3 m ∷ inside 4 m ∷ []
-formRefusals tokenized m = exactly 3 m ∷ inside 4 m ∷ inside 5 m ∷ inside 6 m ∷ inside 7 m ∷ exactly 8 m ∷ []
-formRefusals partial m = exactly 3 m ∷ inside 4 m ∷ inside 9 m ∷ exactly 10 m ∷ []
+-- a line that is UTF-8 and not too long is refused in each form by these: at its end, at a NUL, at a space, at a slash, or at one of its bytes
+unfoldable pub formRefusals : Form → List ℕ → List Allowed
+formRefusals raw x = exactly 3 (length x) ∷ at-byte 4 0 x ∷ []
+formRefusals tokenized x =
+    exactly 3 (length x) ∷ at-byte 4 0 x ∷ at-byte 5 32 x ∷ at-byte 6 32 x ∷ at-byte 7 47 x ∷ exactly 8 (length x) ∷ []
+formRefusals partial x = exactly 3 (length x) ∷ at-byte 4 0 x ∷ inside 9 x ∷ exactly 10 (length x) ∷ []
 
 -- a line over 4,096 bytes is refused by 1 at 4096; one that is not UTF-8 by 2 at the end of its longest valid prefix; any other by its form
 unfoldable pub lineRefusals : Form → List ℕ → List Allowed
 lineRefusals f x =
     if ltb 4096 (length x) then exactly 1 4096 ∷ []
     else if ltb (validPrefix x) (length x) then exactly 2 (validPrefix x) ∷ []
-    else formRefusals f (length x)
+    else formRefusals f x
 
 -- a reader refuses by 11, or by what the line is refused by; an update by 15 too
 abbrev pub readRefusals : Form → List ℕ → List Allowed

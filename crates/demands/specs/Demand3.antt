@@ -1,10 +1,11 @@
 -- Demand 3 over the public functions: what a line becomes that is read by one of them and written by another, and what a sheet becomes that is written.
-use Prim.Native.Nat.{ℕ, _≤_}
+use Prim.Native.Nat.{ℕ, _+_, _≤_}
 use mathlib.Core.Path.{_≡_}
 use mathlib.Core.Logic.{_↔_}
-use mathlib.Core.List.{List}
+use mathlib.Core.List.{List, _++_}
 use lib.IntN.{ℤ}
-use lib.ListN.{length, take}
+use lib.ListN.{length, take, drop}
+use Rattle.laws.specs.Put.{over}
 use Rattle.sentence.specs.Sentence.{Sentence, Agree, NoUnknown, NoneInside}
 use Rattle.sentence.specs.Reading.{Form, Annotated, tokenized, partial, sentence, read}
 use Rattle.sentence.specs.Writing.{written, setBoundary, resetTags, scored}
@@ -16,6 +17,10 @@ use Rattle.changes.specs.Changes.{BoundarySet, TagsReset}
 use Rattle.scores.specs.Scores.{Predicted}
 use Rattle.load.specs.Load.{ReadDoes}
 use Rattle.write.specs.Answers.{Written}
+use Rattle.passage.specs.declared.Converted.{Converted}
+use Rattle.passage.specs.declared.Converted.the-variants as converted
+use Rattle.passage.specs.Between.{formOf, Converts}
+use Rattle.convert.specs.Convert.{conversion}
 
 -- writing the record r and the buffers d in the form g puts w at the front of an output, by the writers' contract
 pub record Spelt (g : Form) (r : Record) (d : Buffers) (w : List ℕ) : Type 0 where
@@ -63,6 +68,10 @@ pub record Demand3 : Type 0 where
       → Respelt f tokenized x u → length u ≤ 4096 → Respelt tokenized tokenized u w → w ≡ u
   -- a line that is written twice in one form is written the same
   pub writes-once : (f g : Form) (x u w : List ℕ) → Respelt f g x u → Respelt f g x w → w ≡ u
+  -- and the conversion puts that same line behind its place
+  pub converts : (reader writer : ℕ) (x u out out′ : List ℕ) (at end : ℕ) → Respelt (formOf reader) (formOf writer) x u
+      → Converts (λ (c : Converted). c) (conversion reader writer x (length out) at) at out (converted.Wrote end) out′
+      → (end ≡ at + length u) × (out′ ≡ take at out ++ over u (drop at out))
   -- of any sheet, however it was made, the same holds
   pub sheet-canonical : (r q : Record) (d e : Buffers) (s t : Sentence) (u v : List ℕ) → Holds r d s → Holds q e t
       → Spelt partial r d u → Spelt partial q e v → (u ≡ v) ↔ Agree s t

@@ -12,14 +12,14 @@ use lib.Seq.{getD-append-add}
 use Rattle.laws.specs.If.{if_then_else_}
 use Rattle.utf8.specs.Utf8.{encodes, size}
 use Rattle.sentence.specs.declared.Refusal.{Refusal}
-use Rattle.sentence.specs.Sentence.{Tag, Sentence, text, rows, count, charPositions, bytePositions, listed, rowBytes, pad, table}
+use Rattle.sentence.specs.Sentence.{Tag, Sentence, text, rows, count, charPositions, bytePositions, listed, pad, table}
 use Rattle.sentence.specs.Writing.{surface}
 use Rattle.sentence.specs.Refusals.{verdict, sheetOrder}
 use Rattle.sheet.specs.declared.Record.{Record}
 use Rattle.sheet.specs.declared.Number.the-variants as number
 use Rattle.sheet.specs.declared.Part.{Part}
 use Rattle.sheet.specs.declared.Part.the-variants as part
-use Rattle.sheet.specs.Layout.{Buffers, buffers, tagsOf, Holds, spell}
+use Rattle.sheet.specs.Layout.{Buffers, buffers, Holds, spell}
 use Rattle.sheet.specs.Check.{isSheet}
 use Rattle.sheet.proofs.Held.{length-starts}
 use Rattle.sheet.proofs.Exact.{is-sheet}
