@@ -1,27 +1,33 @@
 -- Demand 3 holds of the public functions: from their contracts and the laws of the definitions. Assumes nothing.
-use Prim.Native.Nat.{ℕ, _+_, _-_, _≤_}
+use Prim.Native.Nat.{ℕ, _+_, _-_, _≤_, _<_}
 use mathlib.Core.Path.{_≡_, refl, sym, ap, subst, _∙_}
 use mathlib.Core.Logic.{_↔_}
 use mathlib.Core.Bool.{Bool, true, false}
 use mathlib.Core.List.{List, _++_}
 use native.Mathlib.Omega.{arith}
-use borrow.Author.Tests.{le-ltb}
+use borrow.Author.Tests.{eq-eqb, lt-leb, le-ltb}
 use lib.Dec.{ltb}
+use lib.IntN.{ℤ}
 use lib.ListN.{length, take, drop, replicate, length-replicate}
 use lib.Seq.{take-append-seam}
 use Rattle.laws.specs.If.{if_then_else_}
 use Rattle.laws.specs.Put.{over}
 use Rattle.laws.proofs.Facts.{reads}
-use Rattle.sentence.specs.Sentence.{Sentence, Agree, Formed}
+use Rattle.sentence.specs.Sentence.{Sentence, count, Agree, Formed}
 use Rattle.sentence.specs.Reading.{Form, Annotated, tokenized, partial, Result, sentence, refused, read}
-use Rattle.sentence.specs.Writing.{written, needed}
+use Rattle.sentence.specs.Writing.{written, needed, setBoundary, resetTags, scored}
 use Rattle.sentence.specs.Refusals.{verdict, readerOrder, hostOrder}
 use Rattle.sentence.proofs.Shape.{read-formed}
 use Rattle.sentence.proofs.Demand3 as definitions
 use Rattle.sheet.specs.declared.Record.{Record}
-use Rattle.sheet.specs.Layout.{Buffers, buffers, recordOf, roomFor, laid, Holds}
+use Rattle.sheet.specs.declared.Answer.{Answer}
+use Rattle.sheet.specs.declared.Answer.the-variants as answer
+use Rattle.sheet.specs.Layout.{Buffers, buffers, recordOf, roomFor, laid, Holds, spell, markOf}
+use Rattle.sheet.specs.Check.{isSheet}
 use Rattle.sheet.proofs.Held.{laid-holds, spelled}
 use Rattle.sheet.proofs.Exact.{holds-is}
+use Rattle.changes.specs.Changes.{Lays, boundaryAnswer, resetAnswer}
+use Rattle.scores.specs.Scores.{scoreAnswer}
 use Rattle.changes.proofs.After.{boundary-holds, reset-holds}
 use Rattle.scores.proofs.After.{predicted-holds}
 use Rattle.fill.specs.Fill.{Same}
@@ -61,10 +67,60 @@ told-apart s t u v f g i j =
     let d = definitions.told-apart partial s t f g tt tt in
     (λ e. d .0 (sym i ∙ e ∙ j), λ a. i ∙ d .1 a ∙ sym j)
 
+-- sentences that survive are told apart by their tokenized lines
+told-by-tokens : (s t : Sentence) (u v : List ℕ) → Formed s → Formed t → Tokenwise s → Tokenwise t → u ≡ written tokenized s → v ≡ written tokenized t → length u ≤ 4096
+    → (u ≡ v) ↔ Agree s t
+told-by-tokens s t u v f g k l i j le = (
+  λ e.
+      let a = survives s u f i le .1 k in
+      let b = survives t v g j (short u v e le) .1 l in
+      let z : s ≡ t = cc in
+      subst (λ (y : Sentence). Agree s y) z (definitions.told-apart partial s s f f tt tt .0 refl),
+  λ a. i ∙ ap (written tokenized) (definitions.agree-same s t f g a) ∙ sym j,
+)
+
 changes : (r q : Record) (d e : Buffers) (s t : Sentence) → Holds r d s → Changed r d s q e t → Holds q e t
 changes r q d e s t h (boundary-set i v w z) = let k = spelled r d s h in rw (z, ← k) (boundary-holds r d i v _ e q w refl)
 changes r q d e s t h (tags-reset c w z) = let k = spelled r d s h in rw (z, ← k) (reset-holds r d c _ e q w refl)
 changes r q d e s t h (predicted zs w z) = let k = spelled r d s h in rw (z, ← k) (predicted-holds r d zs _ e q w refl)
+
+-- a call that serves lays its sentence down
+lays : (a : Answer) (t : Sentence) (d : Buffers) → answer.Sentence (recordOf t) ≡ a → Lays a t d (answer.Sentence (recordOf t)) (laid t d)
+lays a t d e = record {
+  answer-is = e;
+  text-is = refl;
+  types-is = refl;
+  boundaries-is = refl;
+  char-pos-is = refl;
+  byte-pos-is = refl;
+  row-ends-is = refl;
+  tag-ends-is = refl;
+  tag-bytes-is = refl;
+}
+
+module _ (r : Record) (d : Buffers) (s : Sentence) (h : Holds r d s) where
+  boundary-served : (i v : ℕ) → i < count s - 1 → v ≤ 2 → answer.Sentence (recordOf (setBoundary i (markOf v) (spell r d))) ≡ boundaryAnswer (isSheet r d) (spell r d) i v
+  unfolding boundaryAnswer verdict if_then_else_
+  boundary-served i v k l = rw (holds-is r d s h, spelled r d s h, lt-leb (count s - 1) i k, le-ltb 2 v l)
+
+  reset-served : (c : ℕ) → c ≤ 4096 → answer.Sentence (recordOf (resetTags c (spell r d))) ≡ resetAnswer (isSheet r d) (spell r d) c
+  unfolding resetAnswer verdict if_then_else_
+  reset-served c k = rw (holds-is r d s h, spelled r d s h, le-ltb 4096 c k)
+
+  decision-served : (zs : List ℤ) → length zs ≡ count s - 1 → answer.Sentence (recordOf (scored zs (spell r d))) ≡ scoreAnswer (isSheet r d) (spell r d) zs
+  unfolding scoreAnswer verdict if_then_else_
+  decision-served zs k = rw (holds-is r d s h, spelled r d s h, eq-eqb (length zs) (count s - 1) k)
+
+  boundaries-set : (i v : ℕ) → i < count s - 1 → v ≤ 2 → (q : Record) × (e : Buffers) × Changed r d s q e (setBoundary i (markOf v) s)
+  boundaries-set i v k l =
+      let t = setBoundary i (markOf v) (spell r d) in
+      (recordOf t, laid t d, boundary-set i v (lays _ t d (boundary-served i v k l)) refl)
+
+  columns-set : (c : ℕ) → c ≤ 4096 → (q : Record) × (e : Buffers) × Changed r d s q e (resetTags c s)
+  columns-set c k = let t = resetTags c (spell r d) in (recordOf t, laid t d, tags-reset c (lays _ t d (reset-served c k)) refl)
+
+  boundaries-decided : (zs : List ℤ) → length zs ≡ count s - 1 → (q : Record) × (e : Buffers) × Changed r d s q e (scored zs s)
+  boundaries-decided zs k = let t = scored zs (spell r d) in (recordOf t, laid t d, predicted zs (lays _ t d (decision-served zs k)) refl)
 
 -- ---- lines
 -- what a line means that was read and written: the sentence that the definitions read, and its written line
@@ -195,9 +251,14 @@ demand-3 = record {
       told-apart s t u v (h .formed) (k .formed) (spells partial r d s u h a) (spells partial q e t v k b);
   sheet-reads-back = λ r d s u h a le. partial-back s u (h .formed) (spells partial r d s u h a) le;
   sheet-survives = λ r d s u h a le. survives s u (h .formed) (spells tokenized r d s u h a) le;
+  sheet-told-apart = λ r q d e s t u v h k m n a b le.
+      told-by-tokens s t u v (h .formed) (k .formed) m n (spells tokenized r d s u h a) (spells tokenized q e t v k b) le;
   changed-holds = changes;
   changed-reads-back = λ r q d e s t u h c a le. let k = changes r q d e s t h c in partial-back t u (k .formed) (spells partial q e t u k a) le;
   changed-survives = λ r q d e s t u h c a le. let k = changes r q d e s t h c in survives t u (k .formed) (spells tokenized q e t u k a) le;
+  boundaries-set = λ r d s i v h k l. boundaries-set r d s h i v k l;
+  columns-set = λ r d s c h k. columns-set r d s h c k;
+  boundaries-decided = λ r d s zs h k. boundaries-decided r d s h zs k;
   sheets-spelt = λ g an r d s h. spelt g r d s h;
   lines-respelt = λ f g an x s i. respelt f g x s i;
 }

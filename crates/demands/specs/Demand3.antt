@@ -1,12 +1,12 @@
 -- Demand 3 over the public functions: what a line becomes that is read by one of them and written by another, and what a sheet becomes that is written.
-use Prim.Native.Nat.{ℕ, _+_, _≤_}
+use Prim.Native.Nat.{ℕ, _+_, _-_, _≤_, _<_}
 use mathlib.Core.Path.{_≡_}
 use mathlib.Core.Logic.{_↔_}
 use mathlib.Core.List.{List, _++_}
 use lib.IntN.{ℤ}
 use lib.ListN.{length, take, drop}
 use Rattle.laws.specs.Put.{over}
-use Rattle.sentence.specs.Sentence.{Sentence, Agree, NoUnknown, NoneInside}
+use Rattle.sentence.specs.Sentence.{Sentence, count, Agree, NoUnknown, NoneInside}
 use Rattle.sentence.specs.Reading.{Form, Annotated, tokenized, partial, sentence, read}
 use Rattle.sentence.specs.Writing.{written, setBoundary, resetTags, scored}
 use Rattle.sheet.specs.declared.Record.{Record}
@@ -61,7 +61,8 @@ pub record Demand3 : Type 0 where
       → Respelt f partial x u → Respelt g partial y v → (u ≡ v) ↔ Agree s t
   pub partial-reads-back : (f : Form) (x u : List ℕ) → Respelt f partial x u → length u ≤ 4096 → read partial u ≡ read f x
   pub partial-writes-itself : (f : Form) (x u w : List ℕ) → Respelt f partial x u → length u ≤ 4096 → Respelt partial partial u w → w ≡ u
-  -- the sentence of a line of any form survives the trip through the tokenized form exactly when it is whole in its tokens; then the line writes to itself
+  -- the sentence of a line of any form survives the trip through the tokenized form exactly when it has no unknown boundary
+  -- and no present tag inside a token; then its line writes to itself
   pub survives : (f : Form) (x u : List ℕ) (s : Sentence) → read f x ≡ sentence s → Respelt f tokenized x u → length u ≤ 4096
       → (read tokenized u ≡ sentence s) ↔ Tokenwise s
   pub tokenized-writes-itself : (f : Form) (x u w : List ℕ) (s : Sentence) → read f x ≡ sentence s → Tokenwise s
@@ -79,12 +80,21 @@ pub record Demand3 : Type 0 where
       → read partial u ≡ sentence s
   pub sheet-survives : (r : Record) (d : Buffers) (s : Sentence) (u : List ℕ) → Holds r d s → Spelt tokenized r d u → length u ≤ 4096
       → (read tokenized u ≡ sentence s) ↔ Tokenwise s
+  pub sheet-told-apart : (r q : Record) (d e : Buffers) (s t : Sentence) (u v : List ℕ) → Holds r d s → Holds q e t → Tokenwise s → Tokenwise t
+      → Spelt tokenized r d u → Spelt tokenized q e v → length u ≤ 4096 → (u ≡ v) ↔ Agree s t
   -- so of a sheet whose boundary was set, whose tags were reset, or whose boundaries were decided: it holds the changed sentence
   pub changed-holds : (r q : Record) (d e : Buffers) (s t : Sentence) → Holds r d s → Changed r d s q e t → Holds q e t
   pub changed-reads-back : (r q : Record) (d e : Buffers) (s t : Sentence) (u : List ℕ) → Holds r d s → Changed r d s q e t
       → Spelt partial q e u → length u ≤ 4096 → read partial u ≡ sentence t
   pub changed-survives : (r q : Record) (d e : Buffers) (s t : Sentence) (u : List ℕ) → Holds r d s → Changed r d s q e t
       → Spelt tokenized q e u → length u ≤ 4096 → (read tokenized u ≡ sentence t) ↔ Tokenwise t
-  -- none of this is about nothing: given room, every sheet is written, and every accepted line is read and written, as its written line
+  -- there are such changes: of every sheet, by numbers in range
+  pub boundaries-set : (r : Record) (d : Buffers) (s : Sentence) (i v : ℕ) → Holds r d s → i < count s - 1 → v ≤ 2
+      → (q : Record) × (e : Buffers) × Changed r d s q e (setBoundary i (markOf v) s)
+  pub columns-set : (r : Record) (d : Buffers) (s : Sentence) (c : ℕ) → Holds r d s → c ≤ 4096
+      → (q : Record) × (e : Buffers) × Changed r d s q e (resetTags c s)
+  pub boundaries-decided : (r : Record) (d : Buffers) (s : Sentence) (zs : List ℤ) → Holds r d s → length zs ≡ count s - 1
+      → (q : Record) × (e : Buffers) × Changed r d s q e (scored zs s)
+  -- there are such trips: given room, every sheet is written, and every accepted line is read and written, as its written line
   pub sheets-spelt : (g : Form) → Annotated g → (r : Record) (d : Buffers) (s : Sentence) → Holds r d s → Spelt g r d (written g s)
   pub lines-respelt : (f g : Form) → Annotated g → (x : List ℕ) (s : Sentence) → read f x ≡ sentence s → Respelt f g x (written g s)
