@@ -1,26 +1,28 @@
 -- Demand 1 holds of every public entry: from the contracts' definitions. Assumes nothing.
-use Prim.Native.Nat.{ℕ, _-_, _≤_}
+use Prim.Native.Nat.{ℕ, _+_, _-_, _≤_, _<_}
 use mathlib.Core.Path.{_≡_, refl, sym, ap, subst, _∙_}
+use mathlib.Core.Logic.{_↔_, _⊎_, inl, inr}
 use mathlib.Core.Bool.{Bool, true, false, not, _&&_, _||_, false≢true}
 use mathlib.Core.List.{List, [], _∷_, _++_, map}
+use native.Mathlib.Decide.{decLt}
 use native.Mathlib.Omega.{arith}
-use borrow.Author.Tests.{le-leb, leb-true, ltb-true}
+use borrow.Author.Tests.{eq-eqb, eqb-true, le-leb, lt-ltb, leb-true, ltb-false}
 use lib.Dec.{eqb, leb, ltb}
 use lib.IntN.{ℤ}
-use lib.ListN.{length, take, drop, length-append, length-take, length-drop}
-use lib.Seq.{take-length}
-use Rattle.laws.specs.If.{if_then_else_, if-cases}
+use lib.ListN.{length, drop, getD, length-take, length-drop}
+use lib.Seq.{drop-at, drop-drop, getD-drop}
+use Rattle.laws.specs.If.{if_then_else_, if-cases, if-true}
 use Rattle.laws.specs.Put.{over as put}
+use Rattle.laws.proofs.Facts.{reads, or-is}
 use Rattle.utf8.specs.declared.Decoded.{Decoded}
 use Rattle.utf8.specs.declared.Decoded.the-variants as decoded
-use Rattle.utf8.specs.declared.Encoded.{Encoded}
-use Rattle.utf8.specs.Utf8.{scalars, validPrefix, charAt, decodeAt, scalar, encode, filled, encodedOf}
-use Rattle.utf8.proofs.Codec.{valid-within, encode-decode, length-encode, width-small}
+use Rattle.utf8.specs.Utf8.{scalars, validPrefix, charAt, decodeAt, scalar, width, encode, encodes, size}
+use Rattle.utf8.proofs.Codec.{valid-within, encode-decode, length-encode, length-encodes, encodes-scalars, width-small}
 use Rattle.types.specs.declared.ranges.Row.{Row}
 use Rattle.types.specs.TypeOf.{find, ranges, typeOf}
 use Rattle.sentence.specs.declared.Refusal.{Refusal}
-use Rattle.sentence.specs.Sentence.{Sentence}
-use Rattle.sentence.specs.Reading.{Form, raw, tokenized, partial, Kind, mark, slash, back, plain, kind, Place, start, behind, inTag, gap, State, at, escaped, Act, Step, go, stop, ordinary, inside, opening, step, advance, Run, whole, stopped, unfinished, ending, finish, push, follow, run, over, next, Parsed, parsed, gather, Result, sentence, refused, built, placed, read}
+use Rattle.sentence.specs.Sentence.{Mark, word, Sentence}
+use Rattle.sentence.specs.Reading.{Form, raw, tokenized, partial, Kind, mark, slash, back, plain, kind, Place, start, behind, inTag, gap, State, at, escaped, Act, skip, letter, opens, ofTag, Step, go, stop, ordinary, inside, opening, step, advance, Run, whole, stopped, unfinished, ending, finish, push, follow, run, over, next, Parsed, parsed, add, gather, Result, sentence, refused, built, placed, read}
 use Rattle.sentence.specs.Writing.{written, blank}
 use Rattle.sentence.specs.Refusals.{refusal, Check, check, verdict, sheetOrder, readerOrder, updateOrder, hostOrder}
 use Rattle.sheet.specs.declared.Record.{Record}
@@ -33,7 +35,8 @@ use Rattle.sheet.specs.declared.Part.the-variants as part
 use Rattle.sheet.specs.Layout.{Buffers, buffers, recordOf, roomFor, laid, spell}
 use Rattle.sheet.specs.Check.{isSheet}
 use Rattle.sheet.proofs.Exact.{is-sheet, holds-is}
-use Rattle.lookups.specs.Answers.{found, charToStrPos, strToCharPos, boundaryAt, tagPart, tagAt, surfaceAt, bytesOf}
+use Rattle.lookups.specs.Answers.{charToStrPos, strToCharPos, boundaryAt, tagPart, tagAt, surfaceAt}
+use Rattle.lookups.proofs.Parts.{tag-within, surface-within}
 use Rattle.changes.specs.Changes.{Lays, defaultAnswer, DefaultSet, boundaryAnswer, BoundarySet, resetAnswer, TagsReset}
 use Rattle.scores.specs.Scores.{scoreAnswer, Predicted}
 use Rattle.load.specs.Load.{lacks, readAnswer, readLeaves, ReadDoes}
@@ -49,39 +52,26 @@ use Rattle.passage.specs.Between.{Outcome, writes, formOf, between, answerOf, o
 use Rattle.passage.specs.Between.{refuses as no-line}
 use Rattle.convert.specs.Convert.{unknownForms, outOfRange, conversion, codeOf}
 use Rattle.exports.specs.Exports.{noReader, readFirst, readCode, readNumbers, hostAnswer, hostLeaves, HostReads, hostWriteOrder, numberCode, HostWrites, spanned, stepCode, stepSpan, HostSteps}
-use Rattle.respelling.specs.declared.Turn.{Turn}
-use Rattle.respelling.specs.Stream.{turn, Turned}
-use Rattle.respelling.proofs.Turns.{used-within, wrote-within}
-use Rattle.demands.specs.Demand1.{Said, serves, refuses, ofAnswer, ofNumber, ofPart, ofNext, ofConverted, oneOf, Answers, Settled, Blanked, lineNumbers, upTo, inLine, neededOf, Stands, Demand1}
+use Rattle.demands.specs.Demand1.{Said, serves, refuses, ofAnswer, ofNumber, ofPart, ofNext, ofConverted, Allowed, exactly, allows, oneOf, Answers, Settled, Blanked, formRefusals, lineRefusals, readRefusals, updateRefusals, askRefusals, fillRefusals, passRefusals, convertRefusals, Stands, Demand1}
 
 -- ---- one of the refusals
-leb-self : (n : ℕ) → leb n n ≡ true
-leb-self n = le-leb n n (omega arith)
+eqb-self : (n : ℕ) → eqb n n ≡ true
+eqb-self n = eq-eqb n n refl
 
 or-right : (a : Bool) {b : Bool} → b ≡ true → (a || b) ≡ true
 or-right true e = refl
 or-right false e = e
 
-more : (q : ℕ × ℕ) (qs : List (ℕ × ℕ)) (x : Refusal) → oneOf qs x ≡ true → oneOf (q ∷ qs) x ≡ true
+more : (q : Allowed) (qs : List Allowed) (x : Refusal) → oneOf qs x ≡ true → oneOf (q ∷ qs) x ≡ true
 unfolding oneOf
-more q qs x e = or-right (eqb (x .number) (q .0) && leb (x .place) (q .1)) e
-
-either : (b c l r : Bool) → (b || c) ≡ true → l ≡ true → (c ≡ true → r ≡ true) → (b && l || r) ≡ true
-either true c l r e i h = rw i
-either false c l r e i h = h e
-
--- a number that is listed, at a place that is not too far
-among : (ns : List ℕ) (n p m : ℕ) → found n ns ≡ true → p ≤ m → oneOf (upTo m ns) (refusal n p) ≡ true
-unfolding oneOf upTo found
-among [] n p m e h = e
-among (k ∷ ns) n p m e h = either (eqb n k) (found n ns) (leb p m) _ e (le-leb p m h) (λ i. among ns n p m i h)
+more q qs x e = or-right (allows q x) e
 
 -- ---- checks, each of which refuses by one of these
-abbrev Each : List (ℕ × ℕ) → List Check → Type 0
+abbrev Each : List Allowed → List Check → Type 0
 Each qs [] = Unit {0}
 Each qs (check b n p ∷ cs) = (b ≡ true → oneOf qs (refusal n p) ≡ true) × Each qs cs
 
-module _ {A : Type 0} (say : A → Said) (refuse : Refusal → A) (tells : (x : Refusal) → say (refuse x) ≡ refuses x) (qs : List (ℕ × ℕ)) where
+module _ {A : Type 0} (say : A → Said) (refuse : Refusal → A) (tells : (x : Refusal) → say (refuse x) ≡ refuses x) (qs : List Allowed) where
   answers : (cs : List Check) (served : A) → say served ≡ serves → Each qs cs → Answers qs (say (verdict refuse cs served))
   unfolding verdict if_then_else_
   answers [] served s h = rw s tt
@@ -96,16 +86,16 @@ module _ {A : Type 0} (say : A → Said) (refuse : Refusal → A) (tells : (x : 
   settles (check false n p ∷ cs) served d new s h = settles cs served d new s (h .1)
 
 -- the checks of a call on a sheet
-sheet-13-14 : (bad out : Bool) (i : ℕ) → Each ((13, 0) ∷ (14, i) ∷ []) (sheetOrder bad out i false 0)
-unfolding oneOf
-sheet-13-14 bad out i = (λ e. refl, (λ e. rw (leb-self i), (λ e. absurd (false≢true e), tt)))
+sheet-13-14 : (bad out : Bool) (i : ℕ) → Each (askRefusals i) (sheetOrder bad out i false 0)
+unfolding oneOf allows
+sheet-13-14 bad out i = (λ e. refl, (λ e. rw (eqb-self i), (λ e. absurd (false≢true e), tt)))
 
-sheet-13-12 : (bad short : Bool) (p n : ℕ) → Each ((13, 0) ∷ (12, n) ∷ []) (sheetOrder bad false p short n)
-unfolding oneOf
-sheet-13-12 bad short p n = (λ e. refl, (λ e. absurd (false≢true e), (λ e. rw (leb-self n), tt)))
+sheet-13-12 : (bad short : Bool) (p n : ℕ) → Each (fillRefusals n) (sheetOrder bad false p short n)
+unfolding oneOf allows
+sheet-13-12 bad short p n = (λ e. refl, (λ e. absurd (false≢true e), (λ e. rw (eqb-self n), tt)))
 
-sheet-13 : (bad : Bool) (p : ℕ) → Each ((13, 0) ∷ []) (sheetOrder bad false p false 0)
-unfolding oneOf
+sheet-13 : (bad : Bool) (p : ℕ) → Each (exactly 13 0 ∷ []) (sheetOrder bad false p false 0)
+unfolding oneOf allows
 sheet-13 bad p = (λ e. refl, (λ e. absurd (false≢true e), (λ e. absurd (false≢true e), tt)))
 
 -- ---- what each kind of answer says
@@ -143,7 +133,7 @@ serves-tag b [] = refl
 serves-tag b (c ∷ t) = refl
 
 -- ---- calls that lay a sentence down: a refusal leaves the buffers
-lays : {s : Sentence} {d e : Buffers} (qs : List (ℕ × ℕ)) (cs : List Check) (q : Record) (r : Answer) → Each qs cs
+lays : {s : Sentence} {d e : Buffers} (qs : List Allowed) (cs : List Check) (q : Record) (r : Answer) → Each qs cs
     → Lays (verdict answer.Refused cs (answer.Sentence q)) s d r e → Settled qs (ofAnswer r) d e
 unfolding ofAnswer
 lays qs cs q (answer.Sentence z) h w = tt
@@ -155,186 +145,384 @@ lays {s} {d} {e} qs cs q (answer.Refused x) h w =
     whole x = buffers (x .text-buf) (x .types-buf) (x .boundaries-buf) (x .char-pos-buf) (x .byte-pos-buf) (x .row-ends-buf) (x .tag-ends-buf) (x .tag-bytes-buf)
 
 -- ---- what a line is refused by
-abbrev Stops : Form → Step → Type 0
-Stops f (go σ a) = Unit {0}
-Stops f (stop e) = found e (lineNumbers f) ≡ true
+-- a number that is allowed where a character stands, of which one of a single byte is that byte
+abbrev AtChar : Form → ℕ → ℕ → Type 0
+AtChar f c e = (x : List ℕ) (p : ℕ) → p < length x → (c ≤ 0x7F → getD x p 0 ≡ c) → oneOf (formRefusals f x) (refusal e p) ≡ true
 
-abbrev Ran : Form → Run → Type 0
-Ran f (whole l) = Unit {0}
-Ran f (stopped e left) = found e (lineNumbers f) ≡ true
+-- and one that is allowed at a line's end
+abbrev AtEnd : Form → ℕ → Type 0
+AtEnd f e = (x : List ℕ) → oneOf (formRefusals f x) (refusal e (length x)) ≡ true
 
-ordinary-stops : (f : Form) (p : Place) (c : ℕ) → Stops f (ordinary f p c)
-unfolding ordinary found lineNumbers
+is-byte : (x : List ℕ) (p c b : ℕ) → c ≡ b → b ≤ 0x7F → (c ≤ 0x7F → getD x p 0 ≡ c) → eqb (getD x p 0) b ≡ true
+is-byte x p c b e h g = eq-eqb (getD x p 0) b (g (omega arith) ∙ e)
+
+nul : (f : Form) (c : ℕ) → c ≡ 0 → AtChar f c 4
+unfolding oneOf allows formRefusals
+nul raw c e x p h g = rw (lt-ltb p (length x) h, is-byte x p c 0 e (omega arith) g)
+nul tokenized c e x p h g = rw (lt-ltb p (length x) h, is-byte x p c 0 e (omega arith) g)
+nul partial c e x p h g = rw (lt-ltb p (length x) h, is-byte x p c 0 e (omega arith) g)
+
+space-first : (c : ℕ) → c ≡ 32 → AtChar tokenized c 5
+unfolding oneOf allows formRefusals
+space-first c e x p h g = rw (lt-ltb p (length x) h, is-byte x p c 32 e (omega arith) g)
+
+space-again : (c : ℕ) → c ≡ 32 → AtChar tokenized c 6
+unfolding oneOf allows formRefusals
+space-again c e x p h g = rw (lt-ltb p (length x) h, is-byte x p c 32 e (omega arith) g)
+
+slash-first : (c : ℕ) → c ≡ 47 → AtChar tokenized c 7
+unfolding oneOf allows formRefusals
+slash-first c e x p h g = rw (lt-ltb p (length x) h, is-byte x p c 47 e (omega arith) g)
+
+bad-mark : (c : ℕ) → AtChar partial c 9
+unfolding oneOf allows formRefusals
+bad-mark c x p h g = rw (lt-ltb p (length x) h)
+
+no-text : (f : Form) → AtEnd f 3
+unfolding oneOf allows formRefusals
+no-text raw x = rw (eqb-self (length x))
+no-text tokenized x = rw (eqb-self (length x))
+no-text partial x = rw (eqb-self (length x))
+
+no-end : (f : Form) → AtEnd f (unfinished f)
+unfolding oneOf allows formRefusals unfinished
+no-end raw x = rw (eqb-self (length x))
+no-end tokenized x = rw (eqb-self (length x))
+no-end partial x = rw (eqb-self (length x))
+
+-- the kinds of the tokenized form, by their characters
+kind-mark : (c : ℕ) (m : Mark) → kind tokenized c ≡ mark m → c ≡ 32
+unfolding kind if_then_else_
+kind-mark c m = on (eqb c 32) refl (eqb c 47) (eqb c 92)
+  where
+    on : (b : Bool) → eqb c 32 ≡ b → (d e : Bool) → (if b then mark word else if d then slash else if e then back else plain) ≡ mark m → c ≡ 32
+    on true q d e h = eqb-true c 32 q
+    on false q true e h = absurd (let z : _≡_ {A = ℕ} 0 1 = cc in omega arith)
+    on false q false true h = absurd (let z : _≡_ {A = ℕ} 0 1 = cc in omega arith)
+    on false q false false h = absurd (let z : _≡_ {A = ℕ} 0 1 = cc in omega arith)
+
+kind-slash : (c : ℕ) → kind tokenized c ≡ slash → c ≡ 47
+unfolding kind if_then_else_
+kind-slash c = on (eqb c 32) (eqb c 47) refl (eqb c 92)
+  where
+    on : (b d : Bool) → eqb c 47 ≡ d → (e : Bool) → (if b then mark word else if d then slash else if e then back else plain) ≡ slash → c ≡ 47
+    on true d q e h = absurd (let z : _≡_ {A = ℕ} 0 1 = cc in omega arith)
+    on false true q e h = eqb-true c 47 q
+    on false false q true h = absurd (let z : _≡_ {A = ℕ} 0 1 = cc in omega arith)
+    on false false q false h = absurd (let z : _≡_ {A = ℕ} 0 1 = cc in omega arith)
+
+-- where a step at the character c stops
+abbrev Stops : Form → ℕ → Step → Type 0
+Stops f c (go σ a) = Unit {0}
+Stops f c (stop e) = AtChar f c e
+
+-- of the line x
+abbrev Ran : Form → List ℕ → Run → Type 0
+Ran f x (whole l) = Unit {0}
+Ran f x (stopped e left) = oneOf (formRefusals f x) (refusal e (length x - left)) ≡ true
+
+ordinary-stops : (f : Form) (p : Place) (c : ℕ) → Stops f c (ordinary f p c)
+unfolding ordinary
 ordinary-stops f start c = tt
 ordinary-stops f (gap m) c = tt
 ordinary-stops f inTag c = tt
 ordinary-stops raw behind c = tt
 ordinary-stops tokenized behind c = tt
-ordinary-stops partial behind c = refl
+ordinary-stops partial behind c = bad-mark c
 
-inside-stops : (f : Form) (p : Place) (k : Kind) (c : ℕ) → Stops f (inside f p k c)
+inside-stops : (f : Form) (p : Place) (k : Kind) (c : ℕ) → Stops f c (inside f p k c)
 unfolding inside
 inside-stops f p (mark m) c = tt
 inside-stops f p slash c = tt
 inside-stops f p back c = tt
 inside-stops f p plain c = ordinary-stops f p c
 
-opening-stops : (e : ℕ) (p : Place) (k : Kind) (c : ℕ) → found e (lineNumbers tokenized) ≡ true → Stops tokenized (opening e p k c)
-unfolding opening found lineNumbers
-opening-stops e p (mark m) c h = h
-opening-stops e p slash c h = refl
-opening-stops e p back c h = tt
-opening-stops e p plain c h = ordinary-stops tokenized p c
+opening-stops : (e : ℕ) (p : Place) (k : Kind) (c : ℕ) → kind tokenized c ≡ k → (c ≡ 32 → AtChar tokenized c e) → Stops tokenized c (opening e p k c)
+unfolding opening
+opening-stops e p (mark m) c i h = h (kind-mark c m i)
+opening-stops e p slash c i h = slash-first c (kind-slash c i)
+opening-stops e p back c i h = tt
+opening-stops e p plain c i h = ordinary-stops tokenized p c
 
-step-stops : (f : Form) (σ : State) (k : Kind) (c : ℕ) → Stops f (step f σ k c)
-unfolding step found lineNumbers
-step-stops f (escaped p) k c = ordinary-stops f p c
-step-stops f (at behind) k c = inside-stops f behind k c
-step-stops f (at inTag) k c = inside-stops f inTag k c
-step-stops raw (at start) k c = ordinary-stops raw start c
-step-stops raw (at (gap m)) k c = ordinary-stops raw (gap m) c
-step-stops partial (at start) k c = ordinary-stops partial start c
-step-stops partial (at (gap m)) k c = ordinary-stops partial (gap m) c
-step-stops tokenized (at start) k c = opening-stops 5 start k c refl
-step-stops tokenized (at (gap m)) k c = opening-stops 6 (gap m) k c refl
+step-stops : (f : Form) (σ : State) (k : Kind) (c : ℕ) → kind f c ≡ k → Stops f c (step f σ k c)
+unfolding step
+step-stops f (escaped p) k c i = ordinary-stops f p c
+step-stops f (at behind) k c i = inside-stops f behind k c
+step-stops f (at inTag) k c i = inside-stops f inTag k c
+step-stops raw (at start) k c i = ordinary-stops raw start c
+step-stops raw (at (gap m)) k c i = ordinary-stops raw (gap m) c
+step-stops partial (at start) k c i = ordinary-stops partial start c
+step-stops partial (at (gap m)) k c i = ordinary-stops partial (gap m) c
+step-stops tokenized (at start) k c i = opening-stops 5 start k c i (space-first c)
+step-stops tokenized (at (gap m)) k c i = opening-stops 6 (gap m) k c i (space-again c)
 
--- every form has the first four
-record Common (f : Form) : Type 0 where
-  one : found 1 (lineNumbers f) ≡ true
-  two : found 2 (lineNumbers f) ≡ true
-  three : found 3 (lineNumbers f) ≡ true
-  four : found 4 (lineNumbers f) ≡ true
-
-common : (f : Form) → Common f
-unfolding found lineNumbers
-common raw = record { one = refl; two = refl; three = refl; four = refl }
-common tokenized = record { one = refl; two = refl; three = refl; four = refl }
-common partial = record { one = refl; two = refl; three = refl; four = refl }
-
-advance-stops : (f : Form) (σ : State) (c : ℕ) → Stops f (advance f σ c)
+advance-stops : (f : Form) (σ : State) (c : ℕ) → Stops f c (advance f σ c)
 unfolding advance
-advance-stops f σ c = if-cases (Stops f) (eqb c 0) _ _ (λ e. common f .four) (λ e. step-stops f σ (kind f c) c)
+advance-stops f σ c = if-cases (Stops f c) (eqb c 0) _ _ (λ e. nul f c (eqb-true c 0 e)) (λ e. step-stops f σ (kind f c) c refl)
 
-ending-ran : (f : Form) (p : Place) → Ran f (ending f p)
-unfolding ending unfinished found lineNumbers
-ending-ran f start = common f .three
-ending-ran f behind = tt
-ending-ran f inTag = tt
-ending-ran raw (gap m) = refl
-ending-ran tokenized (gap m) = refl
-ending-ran partial (gap m) = refl
+at-end : (f : Form) (e : ℕ) (x : List ℕ) → AtEnd f e → oneOf (formRefusals f x) (refusal e (length x - 0)) ≡ true
+at-end f e x h = let z : length x - 0 ≡ length x = omega arith in rw z (h x)
 
-push-ran : (f : Form) (a : Act) (r : Run) → Ran f r → Ran f (push a r)
+ending-ran : (f : Form) (x : List ℕ) (p : Place) → Ran f x (ending f p)
+unfolding ending
+ending-ran f x start = at-end f 3 x (no-text f)
+ending-ran f x behind = tt
+ending-ran f x inTag = tt
+ending-ran f x (gap k) = at-end f (unfinished f) x (no-end f)
+
+push-ran : (f : Form) (x : List ℕ) (a : Act) (r : Run) → Ran f x r → Ran f x (push a r)
 unfolding push
-push-ran f a (whole l) h = tt
-push-ran f a (stopped e left) h = h
+push-ran f x a (whole l) h = tt
+push-ran f x a (stopped e left) h = h
 
-follow-ran : (f : Form) (s : Step) (on : State → Run) (left : ℕ) → Stops f s → ((σ : State) → Ran f (on σ)) → Ran f (follow s on left)
+-- each character takes a byte
+sized : (c : ℕ) (x : List ℕ) → 1 ≤ size (c ∷ x)
+unfolding size
+sized c x = omega (arith, width-small c)
+
+-- the characters y are what is left of the line x
+record Remains (x y : List ℕ) : Type 0 where
+  few : size y ≤ length x
+  bytes : drop (length x - size y) x ≡ encodes y
+
+one-byte : (c : ℕ) (x : List ℕ) → c ≤ 0x7F → getD (encode c ++ x) 0 0 ≡ c
+unfolding encode
+one-byte c x h = rw (if-true _ _ _ (le-leb c 0x7F h))
+
+first-byte : (x y : List ℕ) (c : ℕ) → Remains x (c ∷ y) → c ≤ 0x7F → getD x (length x - size (c ∷ y)) 0 ≡ c
+unfolding encodes
+first-byte x y c l h =
+    let n : length x - size (c ∷ y) + 0 ≡ length x - size (c ∷ y) = omega arith in
+    rw n at (sym (getD-drop (length x - size (c ∷ y)) x 0 0) ∙ ap (λ (z : List ℕ). getD z 0 0) (l .bytes) ∙ one-byte c (encodes y) h)
+
+left-next : (x y : List ℕ) (c : ℕ) → Remains x (c ∷ y) → Remains x y
+unfolding encodes size
+left-next x y c l =
+    let f = l .few in
+    let n : length x - (width c + size y) + width c ≡ length x - size y = omega arith in
+    record {
+      few = omega arith;
+      bytes =
+          ap (λ (k : ℕ). drop k x) (sym n) ∙ sym (drop-drop (width c) (length x - (width c + size y)) x) ∙ ap (drop (width c)) (l .bytes)
+          ∙ drop-at (encode c) (encodes y) (width c) (length-encode c);
+    }
+
+follow-ran : (f : Form) (x y : List ℕ) (c : ℕ) (s : Step) (on : State → Run) → Remains x (c ∷ y) → Stops f c s → ((σ : State) → Ran f x (on σ))
+    → Ran f x (follow s on (size (c ∷ y)))
 unfolding follow
-follow-ran f (go σ a) on left h k = push-ran f a (on σ) (k σ)
-follow-ran f (stop e) on left h k = h
+follow-ran f x y c (go σ a) on l h k = push-ran f x a (on σ) (k σ)
+follow-ran f x y c (stop e) on l h k = h x (length x - size (c ∷ y)) (omega (arith, sized c y, l .few)) (first-byte x y c l)
 
-run-ran : (f : Form) (σ : State) (x : List ℕ) → Ran f (run f σ x)
+run-ran : (f : Form) (x : List ℕ) (σ : State) (y : List ℕ) → Remains x y → Ran f x (run f σ y)
 unfolding run finish
-run-ran f (at p) [] = ending-ran f p
-run-ran f (escaped p) [] = ending-ran f p
-run-ran f σ (c ∷ x) = follow-ran f (advance f σ c) _ _ (advance-stops f σ c) (λ τ. run-ran f τ x)
+run-ran f x (at p) [] l = ending-ran f x p
+run-ran f x (escaped p) [] l = ending-ran f x p
+run-ran f x σ (c ∷ y) l = follow-ran f x y c (advance f σ c) _ l (advance-stops f σ c) (λ τ. run-ran f x τ y (left-next x y c l))
 
-abbrev Told : Form → ℕ → Result → Type 0
-Told f m (sentence s) = Unit {0}
-Told f m (refused n p) = oneOf (upTo m (lineNumbers f)) (refusal n p) ≡ true
+-- ---- what is read to its end has text
+-- before any text, or behind a boundary
+abbrev Opens : Place → Type 0
+Opens start = Unit {0}
+Opens (gap m) = Unit {0}
+Opens behind = ⊥
+Opens inTag = ⊥
 
-built-told : (f : Form) (m : ℕ) (p : Parsed) → Told f m (built p)
+abbrev OpensAt : State → Type 0
+OpensAt (at p) = Opens p
+OpensAt (escaped p) = Opens p
+
+-- a step from there is refused, takes a letter, or leaves it open
+abbrev Begins : Step → Type 0
+Begins (stop e) = Unit {0}
+Begins (go σ skip) = OpensAt σ
+Begins (go σ (letter m c)) = Unit {0}
+Begins (go σ opens) = ⊥
+Begins (go σ (ofTag c)) = ⊥
+
+ordinary-begins : (f : Form) (p : Place) (c : ℕ) → Opens p → Begins (ordinary f p c)
+unfolding ordinary
+ordinary-begins f start c h = tt
+ordinary-begins f (gap m) c h = tt
+ordinary-begins f behind c h = absurd h
+ordinary-begins f inTag c h = absurd h
+
+opening-begins : (e : ℕ) (p : Place) (k : Kind) (c : ℕ) → Opens p → Begins (opening e p k c)
+unfolding opening
+opening-begins e p (mark m) c h = tt
+opening-begins e p slash c h = tt
+opening-begins e p back c h = h
+opening-begins e p plain c h = ordinary-begins tokenized p c h
+
+step-begins : (f : Form) (σ : State) (k : Kind) (c : ℕ) → OpensAt σ → Begins (step f σ k c)
+unfolding step
+step-begins f (escaped p) k c h = ordinary-begins f p c h
+step-begins f (at behind) k c h = absurd h
+step-begins f (at inTag) k c h = absurd h
+step-begins raw (at start) k c h = ordinary-begins raw start c h
+step-begins raw (at (gap m)) k c h = ordinary-begins raw (gap m) c h
+step-begins partial (at start) k c h = ordinary-begins partial start c h
+step-begins partial (at (gap m)) k c h = ordinary-begins partial (gap m) c h
+step-begins tokenized (at start) k c h = opening-begins 5 start k c h
+step-begins tokenized (at (gap m)) k c h = opening-begins 6 (gap m) k c h
+
+advance-begins : (f : Form) (σ : State) (c : ℕ) → OpensAt σ → Begins (advance f σ c)
+unfolding advance
+advance-begins f σ c h = if-cases Begins (eqb c 0) _ _ (λ e. tt) (λ e. step-begins f σ (kind f c) c h)
+
+abbrev Some : Parsed → Type 0
+Some (parsed t ts n over) = ⊥
+Some (parsed t ts n (next m s)) = Unit {0}
+
+abbrev SomeRun : Run → Type 0
+SomeRun (whole l) = Some (gather l)
+SomeRun (stopped e left) = Unit {0}
+
+letter-some : (m : Mark) (c : ℕ) (p : Parsed) → Some (add (letter m c) p)
+unfolding add
+letter-some m c (parsed t ts n r) = tt
+
+push-letter : (m : Mark) (c : ℕ) (r : Run) → SomeRun (push (letter m c) r)
+unfolding push gather
+push-letter m c (whole l) = letter-some m c (gather l)
+push-letter m c (stopped e left) = tt
+
+push-skip : (r : Run) → SomeRun r → SomeRun (push skip r)
+unfolding push gather add
+push-skip (whole l) h = h
+push-skip (stopped e left) h = tt
+
+follow-some : (s : Step) (on : State → Run) (left : ℕ) → Begins s → ((σ : State) → OpensAt σ → SomeRun (on σ)) → SomeRun (follow s on left)
+unfolding follow
+follow-some (stop e) on left h k = tt
+follow-some (go σ skip) on left h k = push-skip (on σ) (k σ h)
+follow-some (go σ (letter m c)) on left h k = push-letter m c (on σ)
+follow-some (go σ opens) on left h k = absurd h
+follow-some (go σ (ofTag c)) on left h k = absurd h
+
+ending-some : (f : Form) (p : Place) → Opens p → SomeRun (ending f p)
+unfolding ending
+ending-some f start h = tt
+ending-some f (gap m) h = tt
+ending-some f behind h = absurd h
+ending-some f inTag h = absurd h
+
+run-some : (f : Form) (σ : State) (x : List ℕ) → OpensAt σ → SomeRun (run f σ x)
+unfolding run finish
+run-some f (at p) [] h = ending-some f p h
+run-some f (escaped p) [] h = ending-some f p h
+run-some f σ (c ∷ x) h = follow-some (advance f σ c) _ _ (advance-begins f σ c h) (λ τ k. run-some f τ x k)
+
+-- ---- what a line reads to, where it is refused by one of these
+abbrev Told : List Allowed → Result → Type 0
+Told qs (sentence s) = Unit {0}
+Told qs (refused n p) = oneOf qs (refusal n p) ≡ true
+
+built-told : (qs : List Allowed) (p : Parsed) → Some p → Told qs (built p)
 unfolding built
-built-told f m (parsed t ts n over) = among (lineNumbers f) 3 0 m (common f .three) (omega arith)
-built-told f m (parsed t ts n (next k s)) = tt
+built-told qs (parsed t ts n over) h = absurd h
+built-told qs (parsed t ts n (next k s)) h = tt
 
-placed-told : (f : Form) (m : ℕ) (r : Run) → Ran f r → Told f m (placed m r)
+placed-told : (f : Form) (x : List ℕ) (r : Run) → Ran f x r → SomeRun r → Told (formRefusals f x) (placed (length x) r)
 unfolding placed
-placed-told f m (whole l) h = built-told f m (gather l)
-placed-told f m (stopped e left) h = among (lineNumbers f) e (m - left) m h (omega arith)
+placed-told f x (whole l) h k = built-told (formRefusals f x) (gather l) k
+placed-told f x (stopped e left) h k = h
 
--- a refused line: a number of its form, at a place that is not past its end
-read-told : (f : Form) (x : List ℕ) → Told f (length x) (read f x)
-unfolding read
-read-told f x =
-    if-cases (Told f (length x)) (ltb 4096 (length x)) _ _
-    (λ e. among (lineNumbers f) 1 4096 (length x) (common f .one) (omega (arith, ltb-true 4096 (length x) e)))
-    (λ e. if-cases (Told f (length x)) (ltb (validPrefix x) (length x)) _ _
-    (λ e. among (lineNumbers f) 2 (validPrefix x) (length x) (common f .two) (valid-within x))
-    (λ e. placed-told f (length x) (run f (at start) (scalars x)) (run-ran f (at start) (scalars x))))
+one-told : (n p : ℕ) → Told (exactly n p ∷ []) (refused n p)
+unfolding oneOf allows
+one-told n p = rw (eqb-self n, eqb-self p)
+
+-- a refused line: a number of its form, at its place
+read-told : (f : Form) (x : List ℕ) → Told (lineRefusals f x) (read f x)
+unfolding read lineRefusals if_then_else_
+read-told f x = long (ltb 4096 (length x))
+  where
+    bad : (b : Bool) → ltb (validPrefix x) (length x) ≡ b
+        → Told (if b then exactly 2 (validPrefix x) ∷ [] else formRefusals f x)
+        (if b then refused 2 (validPrefix x) else placed (length x) (run f (at start) (scalars x)))
+    bad true e = one-told 2 (validPrefix x)
+    bad false e =
+        let v : validPrefix x ≡ length x = omega (arith, ltb-false (validPrefix x) (length x) e, valid-within x) in
+        let n : size (scalars x) ≡ length x = sym (length-encodes (scalars x)) ∙ ap length (encodes-scalars x v) in
+        let z : length x - size (scalars x) ≡ 0 = omega arith in
+        let l : Remains x (scalars x) = record { few = omega arith; bytes = rw z (sym (encodes-scalars x v)) } in
+        placed-told f x (run f (at start) (scalars x)) (run-ran f x (at start) (scalars x) l) (run-some f (at start) (scalars x) tt)
+
+    long : (b : Bool)
+        → Told (if b then exactly 1 4096 ∷ [] else if ltb (validPrefix x) (length x) then exactly 2 (validPrefix x) ∷ [] else formRefusals f x)
+        (if b then refused 1 4096 else if ltb (validPrefix x) (length x) then refused 2 (validPrefix x) else placed (length x) (run f (at start) (scalars x)))
+    long true = one-told 1 4096
+    long false = bad (ltb (validPrefix x) (length x)) refl
 
 -- ---- the readers and the updates
 module _ (f : Form) (x : List ℕ) (d e : Buffers) (a : Answer) where
-  reader : ReadDoes (read f x) d a e → Settled ((11, 0) ∷ inLine f x) (ofAnswer a) d e
-  unfolding readAnswer readLeaves readerOrder ofAnswer oneOf
-  reader w = subst (λ (r : Answer). Settled ((11, 0) ∷ inLine f x) (ofAnswer r) d e) (sym (w .answer-is))
-      (subst (λ (b : Buffers). Settled ((11, 0) ∷ inLine f x) (ofAnswer (readAnswer (read f x) d)) d b) (sym (same-is (w .buffers-are))) (on (read f x) (read-told f x)))
+  reader : ReadDoes (read f x) d a e → Settled (readRefusals f x) (ofAnswer a) d e
+  unfolding readAnswer readLeaves readerOrder ofAnswer oneOf allows
+  reader w = subst (λ (r : Answer). Settled (readRefusals f x) (ofAnswer r) d e) (sym (w .answer-is))
+      (subst (λ (b : Buffers). Settled (readRefusals f x) (ofAnswer (readAnswer (read f x) d)) d b) (sym (same-is (w .buffers-are))) (on (read f x) (read-told f x)))
     where
-      on : (r : Result) → Told f (length x) r → Settled ((11, 0) ∷ inLine f x) (ofAnswer (readAnswer r d)) d (readLeaves r d)
-      on (refused n p) h = (more (11, 0) (inLine f x) (refusal n p) h, refl)
-      on (sentence s) h = settles ofAnswer answer.Refused tells-answer ((11, 0) ∷ inLine f x) (check (lacks d s) 11 0 ∷ []) (answer.Sentence (recordOf s)) d (laid s d) (serves-answer (recordOf s)) (λ k. refl, tt)
+      on : (r : Result) → Told (lineRefusals f x) r → Settled (readRefusals f x) (ofAnswer (readAnswer r d)) d (readLeaves r d)
+      on (refused n p) h = (more (exactly 11 0) (lineRefusals f x) (refusal n p) h, refl)
+      on (sentence s) h = settles ofAnswer answer.Refused tells-answer (readRefusals f x) (check (lacks d s) 11 0 ∷ []) (answer.Sentence (recordOf s)) d (laid s d) (serves-answer (recordOf s)) (λ k. refl, tt)
 
 -- what an update answers and leaves, where there is no room for the one-blank sentence or where there is
 abbrev Left : Form → List ℕ → Buffers → Bool → Said → Buffers → Type 0
 Left f x d b serves e = Unit {0}
-Left f x d b (refuses y) e = (oneOf ((15, 0) ∷ (11, 0) ∷ inLine f x) y ≡ true) × (e ≡ (if b then d else laid blank d))
+Left f x d b (refuses y) e = (oneOf (updateRefusals f x) y ≡ true) × (e ≡ (if b then d else laid blank d))
 
-left : (f : Form) (x : List ℕ) (d : Buffers) (b : Bool) (r : Result) → Told f (length x) r
+left : (f : Form) (x : List ℕ) (d : Buffers) (b : Bool) (r : Result) → Told (lineRefusals f x) r
     → Left f x d b (ofAnswer (verdict answer.Refused (check b 15 0 ∷ []) (readerOrder answer.Refused (lacks d) (λ (s : Sentence). answer.Sentence (recordOf s)) r)))
     (if b then d else readerOrder (λ (y : Refusal). laid blank d) (lacks d) (λ (s : Sentence). laid s d) r)
-unfolding verdict readerOrder if_then_else_ ofAnswer oneOf
+unfolding verdict readerOrder if_then_else_ ofAnswer oneOf allows
 left f x d true r h = (refl, refl)
-left f x d false (refused n p) h = (more (15, 0) ((11, 0) ∷ inLine f x) (refusal n p) (more (11, 0) (inLine f x) (refusal n p) h), refl)
+left f x d false (refused n p) h = (more (exactly 15 0) (readRefusals f x) (refusal n p) (more (exactly 11 0) (lineRefusals f x) (refusal n p) h), refl)
 left f x d false (sentence s) h = on (lacks d s)
   where
     on : (c : Bool) → Left f x d false (ofAnswer (if c then answer.Refused (refusal 11 0) else answer.Sentence (recordOf s))) (if c then laid blank d else laid s d)
     on true = (refl, refl)
     on false = tt
 
-updates : (f : Form) (x : List ℕ) (d e : Buffers) (a : Answer) → UpdateDoes (read f x) d a e → Blanked ((15, 0) ∷ (11, 0) ∷ inLine f x) (ofAnswer a) d e
+updates : (f : Form) (x : List ℕ) (d e : Buffers) (a : Answer) → UpdateDoes (read f x) d a e → Blanked (updateRefusals f x) (ofAnswer a) d e
 unfolding updateAnswer updateLeaves updateOrder
 updates f x d e a w = blanked (ofAnswer a) (rw (w .answer-is, same-is (w .buffers-are)) (left f x d (lacks d blank) (read f x) (read-told f x)))
   where
-    blanked : (y : Said) → Left f x d (lacks d blank) y e → Blanked ((15, 0) ∷ (11, 0) ∷ inLine f x) y d e
+    blanked : (y : Said) → Left f x d (lacks d blank) y e → Blanked (updateRefusals f x) y d e
     blanked serves h = tt
     blanked (refuses y) h = h
 
 -- ---- the writers
 writer : (f : Form) (r : Record) (d : Buffers) (out out′ : List ℕ) (a : Number) → Written f r d out a out′
-    → Settled ((13, 0) ∷ (12, length (lineOf f r d)) ∷ []) (ofNumber a) out out′
+    → Settled (fillRefusals (length (lineOf f r d))) (ofNumber a) out out′
 unfolding writeOrder
 writer f r d out out′ a w =
     rw (w .answer-is, w .out-is)
-    (settles ofNumber number.Refused tells-number ((13, 0) ∷ (12, length (lineOf f r d)) ∷ []) (writeOrder f r d (length out)) (number.Is (length (lineOf f r d))) out (put (lineOf f r d) out) (serves-number (length (lineOf f r d)))
+    (settles ofNumber number.Refused tells-number (fillRefusals (length (lineOf f r d))) (writeOrder f r d (length out)) (number.Is (length (lineOf f r d))) out (put (lineOf f r d) out) (serves-number (length (lineOf f r d)))
     (sheet-13-12 (not (isSheet r d)) (ltb (length out) (length (lineOf f r d))) 0 (length (lineOf f r d))))
 
 -- ---- the conversion
 module _ (reader writer : ℕ) (x out out′ : List ℕ) (place : ℕ) where
-  abbrev refusals : List (ℕ × ℕ)
-  refusals = (16, 0) ∷ (14, 0) ∷ (12, neededOf (formOf writer) (read (formOf reader) x)) ∷ inLine (formOf reader) x
+  abbrev refusals : List Allowed
+  refusals = convertRefusals (formOf reader) (formOf writer) x
 
   -- what comes of it, said
-  abbrev Comes : List (ℕ × ℕ) → Outcome → Type 0
+  abbrev Comes : List Allowed → Outcome → Type 0
   Comes qs (writes w) = Unit {0}
   Comes qs (no-line y) = oneOf qs y ≡ true
 
-  comes : (unknown outside : Bool) (r : Result) → Told (formOf reader) (length x) r
-      → Comes ((16, 0) ∷ (14, 0) ∷ (12, neededOf (formOf writer) r) ∷ inLine (formOf reader) x)
+  comes : (unknown outside : Bool) (r : Result) → Told (lineRefusals (formOf reader) x) r
+      → Comes (exactly 16 0 ∷ exactly 14 0 ∷ passRefusals (formOf reader) (formOf writer) x r)
       (hostOrder no-line unknown outside (λ (s : Sentence). ltb (length out - place) (length (written (formOf writer) s))) (λ (s : Sentence). length (written (formOf writer) s)) (λ (s : Sentence). writes (written (formOf writer) s)) r)
-  unfolding hostOrder verdict if_then_else_ oneOf neededOf
+  unfolding hostOrder verdict if_then_else_ oneOf allows passRefusals
   comes true outside (refused n p) h = refl
   comes false true (refused n p) h = refl
   comes false false (refused n p) h =
-      more (16, 0) ((14, 0) ∷ (12, 0) ∷ inLine (formOf reader) x) (refusal n p)
-      (more (14, 0) ((12, 0) ∷ inLine (formOf reader) x) (refusal n p) (more (12, 0) (inLine (formOf reader) x) (refusal n p) h))
+      more (exactly 16 0) (exactly 14 0 ∷ lineRefusals (formOf reader) x) (refusal n p) (more (exactly 14 0) (lineRefusals (formOf reader) x) (refusal n p) h)
   comes true outside (sentence s) h = refl
   comes false true (sentence s) h = refl
   comes false false (sentence s) h = on (ltb (length out - place) (length (written (formOf writer) s)))
     where
-      on : (b : Bool) → Comes ((16, 0) ∷ (14, 0) ∷ (12, length (written (formOf writer) s)) ∷ inLine (formOf reader) x)
+      on : (b : Bool) → Comes (exactly 16 0 ∷ exactly 14 0 ∷ exactly 12 (length (written (formOf writer) s)) ∷ [])
           (if b then no-line (refusal 12 (length (written (formOf writer) s))) else writes (written (formOf writer) s))
-      on true = rw (leb-self (length (written (formOf writer) s)))
+      on true = rw (eqb-self (length (written (formOf writer) s)))
       on false = tt
 
   outcome : Comes refusals (conversion reader writer x (length out) place)
@@ -354,15 +542,7 @@ module _ (reader writer : ℕ) (x out out′ : List ℕ) (place : ℕ) where
   converts-host a w =
       (answerOf place (conversion reader writer x (length out) place), w .answer, rw (w .output) (settled (conversion reader writer x (length out) place) outcome))
 
--- ---- parts, UTF-8 and types
-part-small : (l : List ℕ) (p : Part) → length (bytesOf l p) ≤ length l
-unfolding bytesOf
-part-small l (part.Bytes b e) =
-    if-cases (λ (y : List ℕ). length y ≤ length l) (leb b e && leb e (length l)) _ _
-    (λ h. omega (arith, length-take (e - b) (drop b l), length-drop b l)) (λ h. omega arith)
-part-small l part.Absent = omega arith
-part-small l (part.Refused x) = omega arith
-
+-- ---- UTF-8 and types
 stands : (s : List ℕ) (p : ℕ) → Stands s p (decodeAt s p)
 unfolding decodeAt
 stands s p = on (charAt (drop p s)) refl
@@ -374,12 +554,16 @@ stands s p = on (charAt (drop p s)) refl
     on decoded.Bad e = tt
     on decoded.End e = tt
 
-encoded-small : (v : ℕ) → (length (encodedOf v .bytes) ≡ 4) × (encodedOf v .len ≤ 4)
-unfolding encodedOf filled
-encoded-small v =
-    if-cases (λ (a : Encoded). (length (a .bytes) ≡ 4) × (a .len ≤ 4)) (scalar v) _ _
-    (λ h. (omega (arith, length-take 4 (encode v ++ 0 ∷ 0 ∷ 0 ∷ 0 ∷ []), length-append (encode v) (0 ∷ 0 ∷ 0 ∷ 0 ∷ [])), omega (arith, length-encode v, width-small v)))
-    (λ h. (refl, omega arith))
+above : (v : ℕ) → scalar v ≡ true → 0xD800 ≤ v → (0xE000 ≤ v) × (v ≤ 0x10FFFF)
+unfolding scalar
+above v = simp reads (omega arith)
+
+scalar-reads : (v : ℕ) → (scalar v ≡ true) ↔ ((v < 0xD800) ⊎ ((0xE000 ≤ v) × (v ≤ 0x10FFFF)))
+unfolding scalar
+scalar-reads v = (
+  λ e. elim (decLt v 0xD800) [ yes k ↦ inl k | no k ↦ inr (above v e (omega arith)) ],
+  λ h. elim h [ inl k ↦ simp or-is (inl (simp reads (omega arith))) | inr k ↦ simp or-is (inr (simp reads (omega arith))) ],
+)
 
 -- each row has one of the six types
 unfoldable six : List Row → Bool
@@ -408,79 +592,79 @@ unfolding typeOf
 type-small c = found-six c ranges all-six
 
 -- ---- look-ups: of whether there is a sheet, of whether a number is out of range, and of what is served
-asked-number : (bad out : Bool) (i n : ℕ) → Answers ((13, 0) ∷ (14, i) ∷ []) (ofNumber (verdict number.Refused (sheetOrder bad out i false 0) (number.Is n)))
+asked-number : (bad out : Bool) (i n : ℕ) → Answers (askRefusals i) (ofNumber (verdict number.Refused (sheetOrder bad out i false 0) (number.Is n)))
 asked-number bad out i n =
-    answers ofNumber number.Refused tells-number ((13, 0) ∷ (14, i) ∷ []) (sheetOrder bad out i false 0) (number.Is n) (serves-number n) (sheet-13-14 bad out i)
+    answers ofNumber number.Refused tells-number (askRefusals i) (sheetOrder bad out i false 0) (number.Is n) (serves-number n) (sheet-13-14 bad out i)
 
-asked-part : (bad out : Bool) (i : ℕ) (p : Part) → ofPart p ≡ serves → Answers ((13, 0) ∷ (14, i) ∷ []) (ofPart (verdict part.Refused (sheetOrder bad out i false 0) p))
+asked-part : (bad out : Bool) (i : ℕ) (p : Part) → ofPart p ≡ serves → Answers (askRefusals i) (ofPart (verdict part.Refused (sheetOrder bad out i false 0) p))
 asked-part bad out i p h =
-    answers ofPart part.Refused tells-part ((13, 0) ∷ (14, i) ∷ []) (sheetOrder bad out i false 0) p h (sheet-13-14 bad out i)
+    answers ofPart part.Refused tells-part (askRefusals i) (sheetOrder bad out i false 0) p h (sheet-13-14 bad out i)
 
-char-pos : (good : Bool) (s : Sentence) (i : ℕ) → Answers ((13, 0) ∷ (14, i) ∷ []) (ofNumber (charToStrPos good s i))
+char-pos : (good : Bool) (s : Sentence) (i : ℕ) → Answers (askRefusals i) (ofNumber (charToStrPos good s i))
 unfolding charToStrPos
 char-pos good s i = asked-number (not good) _ i _
 
-byte-pos : (good : Bool) (s : Sentence) (p : ℕ) → Answers ((13, 0) ∷ (14, p) ∷ []) (ofNumber (strToCharPos good s p))
+byte-pos : (good : Bool) (s : Sentence) (p : ℕ) → Answers (askRefusals p) (ofNumber (strToCharPos good s p))
 unfolding strToCharPos
 byte-pos good s p = asked-number (not good) _ p _
 
-mark-at : (good : Bool) (s : Sentence) (i : ℕ) → Answers ((13, 0) ∷ (14, i) ∷ []) (ofNumber (boundaryAt good s i))
+mark-at : (good : Bool) (s : Sentence) (i : ℕ) → Answers (askRefusals i) (ofNumber (boundaryAt good s i))
 unfolding boundaryAt
 mark-at good s i = asked-number (not good) _ i _
 
-cell-at : (good : Bool) (s : Sentence) (i j : ℕ) → Answers ((13, 0) ∷ (14, i) ∷ []) (ofPart (tagAt good s i j))
+cell-at : (good : Bool) (s : Sentence) (i j : ℕ) → Answers (askRefusals i) (ofPart (tagAt good s i j))
 unfolding tagAt
 cell-at good s i j = asked-part (not good) _ i _ (serves-tag _ _)
 
-text-at : (good : Bool) (s : Sentence) (b e : ℕ) → Answers ((13, 0) ∷ (14, b) ∷ []) (ofPart (surfaceAt good s b e))
+text-at : (good : Bool) (s : Sentence) (b e : ℕ) → Answers (askRefusals b) (ofPart (surfaceAt good s b e))
 unfolding surfaceAt
 text-at good s b e = asked-part (not good) _ b _ (serves-bytes _ _)
 
-stepped : (r : Record) (d : Buffers) (p : ℕ) → Answers ((13, 0) ∷ []) (ofNext (nextOf r d p))
+stepped : (r : Record) (d : Buffers) (p : ℕ) → Answers (exactly 13 0 ∷ []) (ofNext (nextOf r d p))
 unfolding nextOf ofNext
-stepped r d p = answers ofNext step-answer.Refused tells-next ((13, 0) ∷ []) (sheetOrder (not (isSheet r d)) false p false 0) _ refl (sheet-13 (not (isSheet r d)) p)
+stepped r d p = answers ofNext step-answer.Refused tells-next (exactly 13 0 ∷ []) (sheetOrder (not (isSheet r d)) false p false 0) _ refl (sheet-13 (not (isSheet r d)) p)
 
 -- ---- the token list, and the changes
-lists : (r : Record) (d : Buffers) (l l′ : List Token) (a : Number) → Listed r d l a l′ → Settled ((13, 0) ∷ (12, length (tokensOf r d)) ∷ []) (ofNumber a) l l′
+lists : (r : Record) (d : Buffers) (l l′ : List Token) (a : Number) → Listed r d l a l′ → Settled (fillRefusals (length (tokensOf r d))) (ofNumber a) l l′
 unfolding countOf listOrder
 lists r d l l′ a w =
     rw (w .answer-is, w .list-is)
-    (settles ofNumber number.Refused tells-number ((13, 0) ∷ (12, length (tokensOf r d)) ∷ []) (listOrder r d (length l)) (number.Is (length (tokensOf r d))) l (put (map spanOf (tokensOf r d)) l) (serves-number (length (tokensOf r d)))
+    (settles ofNumber number.Refused tells-number (fillRefusals (length (tokensOf r d))) (listOrder r d (length l)) (number.Is (length (tokensOf r d))) l (put (map spanOf (tokensOf r d)) l) (serves-number (length (tokensOf r d)))
     (sheet-13-12 (not (isSheet r d)) (ltb (length l) (length (tokensOf r d))) 0 (length (tokensOf r d))))
 
-default : (d e : Buffers) (a : Answer) → DefaultSet d a e → Settled ((15, 0) ∷ []) (ofAnswer a) d e
-unfolding defaultAnswer oneOf
-default d e a w = lays ((15, 0) ∷ []) (check (not (roomFor (recordOf blank) d)) 15 0 ∷ []) (recordOf blank) a (λ h. refl, tt) w
+default : (d e : Buffers) (a : Answer) → DefaultSet d a e → Settled (exactly 15 0 ∷ []) (ofAnswer a) d e
+unfolding defaultAnswer oneOf allows
+default d e a w = lays (exactly 15 0 ∷ []) (check (not (roomFor (recordOf blank) d)) 15 0 ∷ []) (recordOf blank) a (λ h. refl, tt) w
 
-marks-set : (r : Record) (d e : Buffers) (i v : ℕ) (a : Answer) → BoundarySet r d i v a e → Settled ((13, 0) ∷ (14, i) ∷ []) (ofAnswer a) d e
+marks-set : (r : Record) (d e : Buffers) (i v : ℕ) (a : Answer) → BoundarySet r d i v a e → Settled (askRefusals i) (ofAnswer a) d e
 unfolding boundaryAnswer
-marks-set r d e i v a w = lays ((13, 0) ∷ (14, i) ∷ []) _ _ a (sheet-13-14 (not (isSheet r d)) _ i) w
+marks-set r d e i v a w = lays (askRefusals i) _ _ a (sheet-13-14 (not (isSheet r d)) _ i) w
 
-tags-reset : (r : Record) (d e : Buffers) (c : ℕ) (a : Answer) → TagsReset r d c a e → Settled ((13, 0) ∷ (14, c) ∷ []) (ofAnswer a) d e
+tags-reset : (r : Record) (d e : Buffers) (c : ℕ) (a : Answer) → TagsReset r d c a e → Settled (askRefusals c) (ofAnswer a) d e
 unfolding resetAnswer
-tags-reset r d e c a w = lays ((13, 0) ∷ (14, c) ∷ []) _ _ a (sheet-13-14 (not (isSheet r d)) _ c) w
+tags-reset r d e c a w = lays (askRefusals c) _ _ a (sheet-13-14 (not (isSheet r d)) _ c) w
 
-decided : (r : Record) (d e : Buffers) (zs : List ℤ) (a : Answer) → Predicted r d zs a e → Settled ((13, 0) ∷ (14, length zs) ∷ []) (ofAnswer a) d e
+decided : (r : Record) (d e : Buffers) (zs : List ℤ) (a : Answer) → Predicted r d zs a e → Settled (askRefusals (length zs)) (ofAnswer a) d e
 unfolding scoreAnswer
-decided r d e zs a w = lays ((13, 0) ∷ (14, length zs) ∷ []) _ _ a (sheet-13-14 (not (isSheet r d)) _ (length zs)) w
+decided r d e zs a w = lays (askRefusals (length zs)) _ _ a (sheet-13-14 (not (isSheet r d)) _ (length zs)) w
 
 -- ---- the host's other calls
 module _ (f : ℕ) (x : List ℕ) (d : Buffers) (ns : List ℕ) where
-  abbrev read-refusals : List (ℕ × ℕ)
-  read-refusals = (16, 0) ∷ (14, 0) ∷ (11, 0) ∷ inLine (formOf f) x
+  abbrev read-refusals : List Allowed
+  read-refusals = exactly 16 0 ∷ exactly 14 0 ∷ readRefusals (formOf f) x
 
   -- by whether the form is unknown, whether the numbers are too few, and what the line reads to
   abbrev answered : Bool → Bool → Result → Answer
   answered b c r = verdict answer.Refused (check b 16 0 ∷ check c 14 0 ∷ []) (readAnswer r d)
 
-  told : (b c : Bool) (r : Result) → Told (formOf f) (length x) r
+  told : (b c : Bool) (r : Result) → Told (lineRefusals (formOf f) x) r
       → Settled {M = Buffers × List ℕ} read-refusals (ofAnswer (answered b c r)) (d, ns) (verdict (λ (q : Refusal). d) (check b 16 0 ∷ check c 14 0 ∷ []) (readLeaves r d), readNumbers (answered b c r) ns)
-  unfolding verdict readAnswer readLeaves readerOrder readNumbers if_then_else_ ofAnswer oneOf
+  unfolding verdict readAnswer readLeaves readerOrder readNumbers if_then_else_ ofAnswer oneOf allows
   told true c r h = (refl, refl)
   told false true r h = (refl, refl)
   told false false (refused n p) h = (
-    more (16, 0) ((14, 0) ∷ (11, 0) ∷ inLine (formOf f) x) (refusal n p)
-        (more (14, 0) ((11, 0) ∷ inLine (formOf f) x) (refusal n p) (more (11, 0) (inLine (formOf f) x) (refusal n p) h)),
+    more (exactly 16 0) (exactly 14 0 ∷ readRefusals (formOf f) x) (refusal n p)
+        (more (exactly 14 0) (readRefusals (formOf f) x) (refusal n p) (more (exactly 11 0) (lineRefusals (formOf f) x) (refusal n p) h)),
     refl,
   )
   told false false (sentence s) h = on (lacks d s)
@@ -497,36 +681,33 @@ module _ (f : ℕ) (x : List ℕ) (d : Buffers) (ns : List ℕ) where
       (hostAnswer f x d (length ns), w .answer-is, rw (same-is (w .buffers-are), w .numbers-are) (told (noReader f) (ltb (length ns) 5) (read (formOf f) x) (read-told (formOf f) x)))
 
 host-writes : (f : ℕ) (r : Record) (d : Buffers) (out out′ : List ℕ) (a : ℕ) → HostWrites f r d out a out′
-    → (c : Number) × (a ≡ numberCode c) × Settled ((16, 0) ∷ (13, 0) ∷ (12, length (lineOf (formOf f) r d)) ∷ []) (ofNumber c) out out′
-unfolding hostWriteOrder writeOrder oneOf
+    → (c : Number) × (a ≡ numberCode c) × Settled (exactly 16 0 ∷ fillRefusals (length (lineOf (formOf f) r d))) (ofNumber c) out out′
+unfolding hostWriteOrder writeOrder oneOf allows
 host-writes f r d out out′ a w =
     let n = length (lineOf (formOf f) r d) in (
       verdict number.Refused (hostWriteOrder f r d (length out)) (number.Is n),
       w .answer-is,
       rw (w .out-is)
-          (settles ofNumber number.Refused tells-number ((16, 0) ∷ (13, 0) ∷ (12, n) ∷ []) (hostWriteOrder f r d (length out)) (number.Is n) out (put (lineOf (formOf f) r d) out) (serves-number n)
-          (λ e. refl, (λ e. refl, (λ e. absurd (false≢true e), (λ e. rw (leb-self n), tt))))),
+          (settles ofNumber number.Refused tells-number (exactly 16 0 ∷ fillRefusals n) (hostWriteOrder f r d (length out)) (number.Is n) out (put (lineOf (formOf f) r d) out) (serves-number n)
+          (λ e. refl, (λ e. refl, (λ e. absurd (false≢true e), (λ e. rw (eqb-self n), tt))))),
     )
 
 -- a step, told in a span with so much room
-spans : (s : Next) (span : List ℕ) (b : Bool) → ltb (length span) 2 ≡ b → Answers ((13, 0) ∷ []) (ofNext s)
-    → Settled ((14, 0) ∷ (13, 0) ∷ []) (ofNext (spanned (length span) s)) span (stepSpan (spanned (length span) s) span)
-unfolding spanned stepSpan verdict if_then_else_ ofNext oneOf
+spans : (s : Next) (span : List ℕ) (b : Bool) → ltb (length span) 2 ≡ b → Answers (exactly 13 0 ∷ []) (ofNext s)
+    → Settled (exactly 13 0 ∷ exactly 14 0 ∷ []) (ofNext (spanned (length span) s)) span (stepSpan (spanned (length span) s) span)
+unfolding spanned stepSpan verdict if_then_else_ ofNext oneOf allows
 spans (step-answer.Is s) span true e h = rw e (refl, refl)
 spans (step-answer.Is s) span false e h = rw e tt
-spans (step-answer.Refused q) span b e h = (more (14, 0) ((13, 0) ∷ []) q h, refl)
+spans (step-answer.Refused q) span b e h = (first (allows (exactly 13 0) q) _ h, refl)
+  where
+    first : (a b : Bool) → (a || false) ≡ true → (a || b) ≡ true
+    first true b k = refl
+    first false b k = absurd (false≢true k)
 
 host-steps : (r : Record) (d : Buffers) (p : ℕ) (span span′ : List ℕ) (a : ℕ) → HostSteps r d p span a span′
-    → (c : Next) × (a ≡ stepCode c) × Settled ((14, 0) ∷ (13, 0) ∷ []) (ofNext c) span span′
+    → (c : Next) × (a ≡ stepCode c) × Settled (exactly 13 0 ∷ exactly 14 0 ∷ []) (ofNext c) span span′
 host-steps r d p span span′ a w =
     (spanned (length span) (nextOf r d p), w .answer-is, rw (w .span-is) (spans (nextOf r d p) span (ltb (length span) 2) refl (stepped r d p)))
-
--- ---- the program's pieces
-spent : (s out out′ : List ℕ) (skip last : Bool) (a : Turn) → Turned (turn last skip (length out) s) out a out′ → length out′ ≡ length out
-    → (a .used ≤ length s) × (a .wrote ≤ length out)
-spent s out out′ skip last a w k =
-    let t : take (length s) s ≡ s = take-length s in
-    (used-within last skip (length out) (length s) s {out = out} {end = out′} {r = a} (rw t w), omega (arith, wrote-within w k, k))
 
 -- ---- the demand
 pub demand-1 : Demand1
@@ -548,7 +729,8 @@ demand-1 = record {
   boundary = λ r d i a e. rw e (mark-at (isSheet r d) (spell r d) i);
   tag = λ r d i j a e. rw e (cell-at (isSheet r d) (spell r d) i j);
   surface = λ r d b e a q. rw q (text-at (isSheet r d) (spell r d) b e);
-  part-of = λ l p a e. rw e (part-small l p);
+  tag-within = tag-within;
+  surface-within = surface-within;
   set-default = λ d e a w. default d e a w;
   set-boundary = λ r d e i v a w. marks-set r d e i v a w;
   reset-tags = λ r d e c a w. tags-reset r d e c a w;
@@ -559,9 +741,8 @@ demand-1 = record {
   ighdelmur-read = λ f x d e ns ns′ a w. host-reads f x d ns e ns′ a w;
   ighdelmur-write = λ f r d out out′ a w. host-writes f r d out out′ a w;
   ighdelmur-next-token = λ r d p span span′ a w. host-steps r d p span span′ a w;
-  respell = λ s out out′ skip last a w k. spent s out out′ skip last a w k;
   decode = λ s p a e. rw e (stands s p);
-  encode = λ v a e. rw e (encoded-small v);
   valid-up-to = λ s a e. rw e (valid-within s);
+  is-scalar = λ v a e. rw e (scalar-reads v);
   get-type = λ c a e. rw e (type-small c);
 }

@@ -1,18 +1,17 @@
 -- Demand 1: every public entry takes any bytes and numbers, ends, and serves or refuses by a number at a place; a refused call alters nothing
 -- lent to it. That a call ends belongs to every contract; each row says the rest of one entry, of every outcome that meets its contract.
-use Prim.Native.Nat.{ℕ, _+_, _≤_}
+use Prim.Native.Nat.{ℕ, _+_, _≤_, _<_}
 use mathlib.Core.Path.{_≡_}
-use mathlib.Core.Logic.{_↔_}
+use mathlib.Core.Logic.{_↔_, _⊎_}
 use mathlib.Core.Bool.{Bool, true, false, _&&_, _||_}
 use mathlib.Core.List.{List, [], _∷_}
-use lib.Dec.{eqb, leb}
+use lib.Dec.{eqb, ltb}
 use lib.IntN.{ℤ}
-use lib.ListN.{length}
+use lib.ListN.{length, getD}
 use Rattle.laws.specs.If.{if_then_else_}
 use Rattle.utf8.specs.declared.Decoded.{Decoded}
 use Rattle.utf8.specs.declared.Decoded.the-variants as decoded
-use Rattle.utf8.specs.declared.Encoded.{Encoded}
-use Rattle.utf8.specs.Utf8.{scalar, decodeAt, encodedOf, validPrefix}
+use Rattle.utf8.specs.Utf8.{scalar, decodeAt, validPrefix}
 use Rattle.types.specs.TypeOf.{typeOf}
 use Rattle.sentence.specs.declared.Refusal.{Refusal}
 use Rattle.sentence.specs.Reading.{Form, raw, tokenized, partial, Result, sentence, refused, read}
@@ -26,7 +25,7 @@ use Rattle.sheet.specs.declared.Part.{Part}
 use Rattle.sheet.specs.declared.Part.the-variants as part
 use Rattle.sheet.specs.Layout.{Buffers, laid, spell, Sheet}
 use Rattle.sheet.specs.Check.{isSheet}
-use Rattle.lookups.specs.Answers.{charToStrPos, strToCharPos, boundaryAt, tagAt, surfaceAt, bytesOf}
+use Rattle.lookups.specs.Answers.{charToStrPos, strToCharPos, boundaryAt, tagAt, surfaceAt}
 use Rattle.changes.specs.Changes.{DefaultSet, BoundarySet, TagsReset}
 use Rattle.scores.specs.Scores.{Predicted}
 use Rattle.load.specs.Load.{lacks, ReadDoes}
@@ -41,8 +40,6 @@ use Rattle.passage.specs.declared.Converted.the-variants as converted
 use Rattle.passage.specs.Between.{formOf, Converts}
 use Rattle.convert.specs.Convert.{conversion, codeOf}
 use Rattle.exports.specs.Exports.{readCode, HostReads, numberCode, HostWrites, stepCode, HostSteps}
-use Rattle.respelling.specs.declared.Turn.{Turn}
-use Rattle.respelling.specs.Stream.{turn, Turned}
 
 -- what an answer says: it serves, or it refuses
 pub data Said : Type 0 where
@@ -70,44 +67,74 @@ unfoldable pub ofConverted : Converted → Said
 ofConverted (converted.Wrote e) = serves
 ofConverted (converted.Refused x) = refuses x
 
--- a refusal is one of these: a number, and the greatest place that it can have
-unfoldable pub oneOf : List (ℕ × ℕ) → Refusal → Bool
+-- what is allowed: a number at one place, at any byte of a line, or at one that is the byte b
+pub data Allowed : Type 0 where
+  exactly : ℕ → ℕ → Allowed
+  inside : ℕ → List ℕ → Allowed
+  at-byte : ℕ → ℕ → List ℕ → Allowed
+
+unfoldable pub allows : Allowed → Refusal → Bool
+allows (exactly n p) y = eqb (y .number) n && eqb (y .place) p
+allows (inside n x) y = eqb (y .number) n && ltb (y .place) (length x)
+allows (at-byte n b x) y = eqb (y .number) n && (ltb (y .place) (length x) && eqb (getD x (y .place) 0) b)
+
+-- a refusal is one of these
+unfoldable pub oneOf : List Allowed → Refusal → Bool
 oneOf [] x = false
-oneOf (q ∷ qs) x = eqb (x .number) (q .0) && leb (x .place) (q .1) || oneOf qs x
+oneOf (q ∷ qs) x = allows q x || oneOf qs x
 
 -- it serves, or refuses by one of these
-abbrev pub Answers : List (ℕ × ℕ) → Said → Type 0
+abbrev pub Answers : List Allowed → Said → Type 0
 Answers qs serves = Unit {0}
 Answers qs (refuses x) = oneOf qs x ≡ true
 
 -- and where it refuses, the lent memory is after the call what it was before
-abbrev pub Settled : {M : Type 0} → List (ℕ × ℕ) → Said → M → M → Type 0
+abbrev pub Settled : {M : Type 0} → List Allowed → Said → M → M → Type 0
 Settled qs serves d e = Unit {0}
 Settled qs (refuses x) d e = (oneOf qs x ≡ true) × (e ≡ d)
 
 -- the exception: where an update refuses, the one-blank sentence is laid down, given room for it
-abbrev pub Blanked : List (ℕ × ℕ) → Said → Buffers → Buffers → Type 0
+abbrev pub Blanked : List Allowed → Said → Buffers → Buffers → Type 0
 Blanked qs serves d e = Unit {0}
 Blanked qs (refuses x) d e = (oneOf qs x ≡ true) × (e ≡ (if lacks d blank then d else laid blank d))
 
--- the numbers that a line is refused by in each form
-unfoldable pub lineNumbers : Form → List ℕ
-lineNumbers raw = 1 ∷ 2 ∷ 3 ∷ 4 ∷ []
-lineNumbers tokenized = 1 ∷ 2 ∷ 3 ∷ 4 ∷ 5 ∷ 6 ∷ 7 ∷ 8 ∷ []
-lineNumbers partial = 1 ∷ 2 ∷ 3 ∷ 4 ∷ 9 ∷ 10 ∷ []
+-- a line that is UTF-8 and not too long is refused in each form by these: at its end, at a NUL, at a space, at a slash, or at one of its bytes
+unfoldable pub formRefusals : Form → List ℕ → List Allowed
+formRefusals raw x = exactly 3 (length x) ∷ at-byte 4 0 x ∷ []
+formRefusals tokenized x =
+    exactly 3 (length x) ∷ at-byte 4 0 x ∷ at-byte 5 32 x ∷ at-byte 6 32 x ∷ at-byte 7 47 x ∷ exactly 8 (length x) ∷ []
+formRefusals partial x = exactly 3 (length x) ∷ at-byte 4 0 x ∷ inside 9 x ∷ exactly 10 (length x) ∷ []
 
-unfoldable pub upTo : ℕ → List ℕ → List (ℕ × ℕ)
-upTo p [] = []
-upTo p (n ∷ ns) = (n, p) ∷ upTo p ns
+-- a line over 4,096 bytes is refused by 1 at 4096; one that is not UTF-8 by 2 at the end of its longest valid prefix; any other by its form
+unfoldable pub lineRefusals : Form → List ℕ → List Allowed
+lineRefusals f x =
+    if ltb 4096 (length x) then exactly 1 4096 ∷ []
+    else if ltb (validPrefix x) (length x) then exactly 2 (validPrefix x) ∷ []
+    else formRefusals f x
 
--- those of a line, with a place that is not past its end
-abbrev pub inLine : Form → List ℕ → List (ℕ × ℕ)
-inLine f x = upTo (length x) (lineNumbers f)
+-- a reader refuses by 11, or by what the line is refused by; an update by 15 too
+abbrev pub readRefusals : Form → List ℕ → List Allowed
+readRefusals f x = exactly 11 0 ∷ lineRefusals f x
 
--- the length of the written line of what is read
-unfoldable pub neededOf : Form → Result → ℕ
-neededOf g (sentence s) = needed g s
-neededOf g (refused n p) = 0
+abbrev pub updateRefusals : Form → List ℕ → List Allowed
+updateRefusals f x = exactly 15 0 ∷ readRefusals f x
+
+-- a call on a sheet refuses by 13, or by 14 at the first number given
+abbrev pub askRefusals : ℕ → List Allowed
+askRefusals first = exactly 13 0 ∷ exactly 14 first ∷ []
+
+-- a call that fills a list or an output refuses by 13, or by 12 at the length needed
+abbrev pub fillRefusals : ℕ → List Allowed
+fillRefusals need = exactly 13 0 ∷ exactly 12 need ∷ []
+
+-- a line that is refused, or is written in a form, which 12 refuses at the length needed
+unfoldable pub passRefusals : Form → Form → List ℕ → Result → List Allowed
+passRefusals f g x (sentence s) = exactly 12 (needed g s) ∷ []
+passRefusals f g x (refused n p) = lineRefusals f x
+
+-- the conversion refuses by 16, by 14 at 0, or by that
+abbrev pub convertRefusals : Form → Form → List ℕ → List Allowed
+convertRefusals f g x = exactly 16 0 ∷ exactly 14 0 ∷ passRefusals f g x (read f x)
 
 -- a decoded character is a scalar value of bytes that are there
 abbrev pub Stands : List ℕ → ℕ → Decoded → Type 0
@@ -117,64 +144,70 @@ Stands s at decoded.End = Unit {0}
 
 pub record Demand1 : Type 0 where
   -- the readers; `load` is given the form
-  pub load : (f : Form) (line : List ℕ) (d e : Buffers) (a : Answer) → ReadDoes (read f line) d a e → Settled ((11, 0) ∷ inLine f line) (ofAnswer a) d e
-  pub from-raw : (line : List ℕ) (d e : Buffers) (a : Answer) → ReadDoes (read raw line) d a e → Settled ((11, 0) ∷ inLine raw line) (ofAnswer a) d e
+  pub load : (f : Form) (line : List ℕ) (d e : Buffers) (a : Answer) → ReadDoes (read f line) d a e → Settled (readRefusals f line) (ofAnswer a) d e
+  pub from-raw : (line : List ℕ) (d e : Buffers) (a : Answer) → ReadDoes (read raw line) d a e → Settled (readRefusals raw line) (ofAnswer a) d e
   pub from-tokenized : (line : List ℕ) (d e : Buffers) (a : Answer) → ReadDoes (read tokenized line) d a e
-      → Settled ((11, 0) ∷ inLine tokenized line) (ofAnswer a) d e
+      → Settled (readRefusals tokenized line) (ofAnswer a) d e
   pub from-partial-annotation : (line : List ℕ) (d e : Buffers) (a : Answer) → ReadDoes (read partial line) d a e
-      → Settled ((11, 0) ∷ inLine partial line) (ofAnswer a) d e
+      → Settled (readRefusals partial line) (ofAnswer a) d e
   -- their updates
   pub update-raw : (line : List ℕ) (d e : Buffers) (a : Answer) → UpdateDoes (read raw line) d a e
-      → Blanked ((15, 0) ∷ (11, 0) ∷ inLine raw line) (ofAnswer a) d e
+      → Blanked (updateRefusals raw line) (ofAnswer a) d e
   pub update-tokenized : (line : List ℕ) (d e : Buffers) (a : Answer) → UpdateDoes (read tokenized line) d a e
-      → Blanked ((15, 0) ∷ (11, 0) ∷ inLine tokenized line) (ofAnswer a) d e
+      → Blanked (updateRefusals tokenized line) (ofAnswer a) d e
   pub update-partial-annotation : (line : List ℕ) (d e : Buffers) (a : Answer) → UpdateDoes (read partial line) d a e
-      → Blanked ((15, 0) ∷ (11, 0) ∷ inLine partial line) (ofAnswer a) d e
+      → Blanked (updateRefusals partial line) (ofAnswer a) d e
   -- the writers and the note key
   pub write-tokenized-text : (r : Record) (d : Buffers) (out out′ : List ℕ) (a : Number) → Written tokenized r d out a out′
-      → Settled ((13, 0) ∷ (12, length (lineOf tokenized r d)) ∷ []) (ofNumber a) out out′
+      → Settled (fillRefusals (length (lineOf tokenized r d))) (ofNumber a) out out′
   pub write-partial-annotation-text : (r : Record) (d : Buffers) (out out′ : List ℕ) (a : Number) → Written partial r d out a out′
-      → Settled ((13, 0) ∷ (12, length (lineOf partial r d)) ∷ []) (ofNumber a) out out′
+      → Settled (fillRefusals (length (lineOf partial r d))) (ofNumber a) out out′
   pub note-key : (r : Record) (d : Buffers) (out out′ : List ℕ) (a : Number) → Written partial r d out a out′
-      → Settled ((13, 0) ∷ (12, length (lineOf partial r d)) ∷ []) (ofNumber a) out out′
+      → Settled (fillRefusals (length (lineOf partial r d))) (ofNumber a) out out′
   -- the token cursor and the token list
-  pub next-token : (r : Record) (d : Buffers) (p : ℕ) (a : Next) → a ≡ nextOf r d p → Answers ((13, 0) ∷ []) (ofNext a)
+  pub next-token : (r : Record) (d : Buffers) (p : ℕ) (a : Next) → a ≡ nextOf r d p → Answers (exactly 13 0 ∷ []) (ofNext a)
   pub token-list : (r : Record) (d : Buffers) (l l′ : List Token) (a : Number) → Listed r d l a l′
-      → Settled ((13, 0) ∷ (12, length (tokensOf r d)) ∷ []) (ofNumber a) l l′
+      → Settled (fillRefusals (length (tokensOf r d))) (ofNumber a) l l′
   -- the look-ups, which alter nothing
-  pub char-to-str-pos : (r : Record) (d : Buffers) (i : ℕ) (a : Number) → a ≡ charToStrPos (isSheet r d) (spell r d) i → Answers ((13, 0) ∷ (14, i) ∷ []) (ofNumber a)
-  pub str-to-char-pos : (r : Record) (d : Buffers) (p : ℕ) (a : Number) → a ≡ strToCharPos (isSheet r d) (spell r d) p → Answers ((13, 0) ∷ (14, p) ∷ []) (ofNumber a)
-  pub boundary : (r : Record) (d : Buffers) (i : ℕ) (a : Number) → a ≡ boundaryAt (isSheet r d) (spell r d) i → Answers ((13, 0) ∷ (14, i) ∷ []) (ofNumber a)
-  pub tag : (r : Record) (d : Buffers) (row column : ℕ) (a : Part) → a ≡ tagAt (isSheet r d) (spell r d) row column → Answers ((13, 0) ∷ (14, row) ∷ []) (ofPart a)
-  pub surface : (r : Record) (d : Buffers) (b e : ℕ) (a : Part) → a ≡ surfaceAt (isSheet r d) (spell r d) b e → Answers ((13, 0) ∷ (14, b) ∷ []) (ofPart a)
-  pub part-of : (bytes : List ℕ) (p : Part) (a : List ℕ) → a ≡ bytesOf bytes p → length a ≤ length bytes
+  pub char-to-str-pos : (r : Record) (d : Buffers) (i : ℕ) (a : Number) → a ≡ charToStrPos (isSheet r d) (spell r d) i
+      → Answers (askRefusals i) (ofNumber a)
+  pub str-to-char-pos : (r : Record) (d : Buffers) (p : ℕ) (a : Number) → a ≡ strToCharPos (isSheet r d) (spell r d) p
+      → Answers (askRefusals p) (ofNumber a)
+  pub boundary : (r : Record) (d : Buffers) (i : ℕ) (a : Number) → a ≡ boundaryAt (isSheet r d) (spell r d) i
+      → Answers (askRefusals i) (ofNumber a)
+  pub tag : (r : Record) (d : Buffers) (row column : ℕ) (a : Part) → a ≡ tagAt (isSheet r d) (spell r d) row column
+      → Answers (askRefusals row) (ofPart a)
+  pub surface : (r : Record) (d : Buffers) (b e : ℕ) (a : Part) → a ≡ surfaceAt (isSheet r d) (spell r d) b e
+      → Answers (askRefusals b) (ofPart a)
+  -- an answered part lies within the slice that it is of
+  pub tag-within : (r : Record) (d : Buffers) (row column : ℕ) (a : Part) (b e : ℕ) → a ≡ tagAt (isSheet r d) (spell r d) row column
+      → a ≡ part.Bytes b e → (b ≤ e) × (e ≤ length (d .tag-bytes-buf))
+  pub surface-within : (r : Record) (d : Buffers) (i j : ℕ) (a : Part) (b e : ℕ) → a ≡ surfaceAt (isSheet r d) (spell r d) i j
+      → a ≡ part.Bytes b e → (b ≤ e) × (e ≤ length (d .text-buf))
   -- the changes and the boundary decision
-  pub set-default : (d e : Buffers) (a : Answer) → DefaultSet d a e → Settled ((15, 0) ∷ []) (ofAnswer a) d e
-  pub set-boundary : (r : Record) (d e : Buffers) (i v : ℕ) (a : Answer) → BoundarySet r d i v a e → Settled ((13, 0) ∷ (14, i) ∷ []) (ofAnswer a) d e
-  pub reset-tags : (r : Record) (d e : Buffers) (c : ℕ) (a : Answer) → TagsReset r d c a e → Settled ((13, 0) ∷ (14, c) ∷ []) (ofAnswer a) d e
-  pub predict : (r : Record) (d e : Buffers) (zs : List ℤ) (a : Answer) → Predicted r d zs a e → Settled ((13, 0) ∷ (14, length zs) ∷ []) (ofAnswer a) d e
+  pub set-default : (d e : Buffers) (a : Answer) → DefaultSet d a e → Settled (exactly 15 0 ∷ []) (ofAnswer a) d e
+  pub set-boundary : (r : Record) (d e : Buffers) (i v : ℕ) (a : Answer) → BoundarySet r d i v a e → Settled (askRefusals i) (ofAnswer a) d e
+  pub reset-tags : (r : Record) (d e : Buffers) (c : ℕ) (a : Answer) → TagsReset r d c a e → Settled (askRefusals c) (ofAnswer a) d e
+  pub predict : (r : Record) (d e : Buffers) (zs : List ℤ) (a : Answer) → Predicted r d zs a e → Settled (askRefusals (length zs)) (ofAnswer a) d e
   -- the check: yes or no, and yes exactly where the buffers are a sheet
   pub check : (r : Record) (d : Buffers) (a : Bool) → a ≡ isSheet r d → (a ≡ true) ↔ Sheet r d
   -- the conversion, and the same for the host, whose number is that of an answer
   pub convert : (reader writer : ℕ) (line out out′ : List ℕ) (at : ℕ) (a : Converted)
       → Converts (λ (c : Converted). c) (conversion reader writer line (length out) at) at out a out′
-      → Settled ((16, 0) ∷ (14, 0) ∷ (12, neededOf (formOf writer) (read (formOf reader) line)) ∷ inLine (formOf reader) line) (ofConverted a) out out′
+      → Settled (convertRefusals (formOf reader) (formOf writer) line) (ofConverted a) out out′
   pub ighdelmur-convert : (reader writer : ℕ) (line out out′ : List ℕ) (at a : ℕ)
       → Converts codeOf (conversion reader writer line (length out) at) at out a out′
-      → (c : Converted) × (a ≡ codeOf c)
-      × Settled ((16, 0) ∷ (14, 0) ∷ (12, neededOf (formOf writer) (read (formOf reader) line)) ∷ inLine (formOf reader) line) (ofConverted c) out out′
+      → (c : Converted) × (a ≡ codeOf c) × Settled (convertRefusals (formOf reader) (formOf writer) line) (ofConverted c) out out′
   -- the host's other calls, whose number is that of an answer
   pub ighdelmur-read : (form : ℕ) (line : List ℕ) (d e : Buffers) (ns ns′ : List ℕ) (a : ℕ) → HostReads form line d ns a e ns′
-      → (c : Answer) × (a ≡ readCode c) × Settled {M = Buffers × List ℕ} ((16, 0) ∷ (14, 0) ∷ (11, 0) ∷ inLine (formOf form) line) (ofAnswer c) (d, ns) (e, ns′)
+      → (c : Answer) × (a ≡ readCode c)
+      × Settled {M = Buffers × List ℕ} (exactly 16 0 ∷ exactly 14 0 ∷ readRefusals (formOf form) line) (ofAnswer c) (d, ns) (e, ns′)
   pub ighdelmur-write : (form : ℕ) (r : Record) (d : Buffers) (out out′ : List ℕ) (a : ℕ) → HostWrites form r d out a out′
-      → (c : Number) × (a ≡ numberCode c) × Settled ((16, 0) ∷ (13, 0) ∷ (12, length (lineOf (formOf form) r d)) ∷ []) (ofNumber c) out out′
+      → (c : Number) × (a ≡ numberCode c) × Settled (exactly 16 0 ∷ fillRefusals (length (lineOf (formOf form) r d))) (ofNumber c) out out′
   pub ighdelmur-next-token : (r : Record) (d : Buffers) (p : ℕ) (span span′ : List ℕ) (a : ℕ) → HostSteps r d p span a span′
-      → (c : Next) × (a ≡ stepCode c) × Settled ((14, 0) ∷ (13, 0) ∷ []) (ofNext c) span span′
-  -- a piece of the program's input: it never refuses, and uses and writes no more than there is
-  pub respell : (input out out′ : List ℕ) (skip last : Bool) (a : Turn) → Turned (turn last skip (length out) input) out a out′ → length out′ ≡ length out
-      → (a .used ≤ length input) × (a .wrote ≤ length out)
+      → (c : Next) × (a ≡ stepCode c) × Settled (exactly 13 0 ∷ exactly 14 0 ∷ []) (ofNext c) span span′
   -- UTF-8 and types, which never refuse: what they answer is in its range
   pub decode : (s : List ℕ) (at : ℕ) (a : Decoded) → a ≡ decodeAt s at → Stands s at a
-  pub encode : (v : ℕ) (a : Encoded) → a ≡ encodedOf v → (length (a .bytes) ≡ 4) × (a .len ≤ 4)
   pub valid-up-to : (s : List ℕ) (a : ℕ) → a ≡ validPrefix s → a ≤ length s
+  pub is-scalar : (v : ℕ) (a : Bool) → a ≡ scalar v → (a ≡ true) ↔ ((v < 0xD800) ⊎ ((0xE000 ≤ v) × (v ≤ 0x10FFFF)))
   pub get-type : (c a : ℕ) → a ≡ typeOf c → (1 ≤ a) × (a ≤ 6)

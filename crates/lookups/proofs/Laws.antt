@@ -2,49 +2,26 @@
 use Prim.Native.Nat.{ℕ, zero, suc, _+_, _-_, _≤_, _<_}
 use native.Mathlib.Omega.{arith}
 use mathlib.Core.Path.{_≡_, refl, sym, _∙_}
-use mathlib.Core.Bool.{Bool, true, false, not, _&&_}
+use mathlib.Core.Bool.{Bool, true, false, not}
 use mathlib.Core.List.{List, [], _∷_}
 use mathlib.Core.Logic.{inr}
 use native.Mathlib.Numerals.{add-one}
 use borrow.Author.Tests.{eq-eqb, ne-eqb, le-ltb, not-false}
-use lib.Dec.{leb}
-use lib.ListN.{length, getD, take, drop, List·getD-eq-default}
-use Rattle.laws.specs.If.{if_then_else_, if-true, if-false}
-use Rattle.laws.proofs.Facts.{reads, or-is}
+use lib.ListN.{length, getD, take, List·getD-eq-default}
+use Rattle.laws.specs.If.{if_then_else_}
+use Rattle.laws.proofs.Facts.{or-is}
 use Rattle.utf8.specs.Utf8.{size}
 use Rattle.utf8.proofs.Codec.{width-small}
-use Rattle.sentence.specs.declared.Refusal.{Refusal}
 use Rattle.sentence.specs.Sentence.{Tag, Sentence, text, rows, charPositions, bytePositions, listed, rowBytes}
 use Rattle.sentence.specs.Refusals.{verdict}
 use Rattle.sheet.specs.Layout.{Buffers, tagsOf, Holds}
 use Rattle.sheet.specs.declared.Record.{Record}
 use Rattle.sheet.specs.declared.Number.{Number}
 use Rattle.sheet.specs.declared.Number.the-variants as number
-use Rattle.sheet.specs.declared.Part.{Part}
 use Rattle.sheet.specs.declared.Part.the-variants as part
 use Rattle.sheet.proofs.Held.{length-starts, byte-pos-held}
 use Rattle.sheet.proofs.Look.{part-at, bytes-among, start-is, bounds, char-pos-is, byte-pos-is, byte-pos-small, row-end-is, tag-end-is, row-next, row-inside, tag-in-row, tag-next}
-use Rattle.lookups.specs.Answers.{startAt, found, strToCharPos, cellStart, tagPart, cell, bytesOf, edge}
-
--- ---- the bytes of a part
-pub ordered : (b e n : ℕ) → (leb b e && leb e n) ≡ true → (b ≤ e) × (e ≤ n)
-ordered b e n = simp reads (omega arith)
-
-pub part-whole : (l : List ℕ) (b e : ℕ) (p : Part) → p ≡ part.Bytes b e → (leb b e && leb e (length l)) ≡ true → take (e - b) (drop b l) ≡ bytesOf l p
-unfolding bytesOf
-part-whole l b e p q h = rw q (sym (if-true _ _ _ h))
-
-pub part-out : (l : List ℕ) (b e : ℕ) (p : Part) → p ≡ part.Bytes b e → (leb b e && leb e (length l)) ≡ false → [] ≡ bytesOf l p
-unfolding bytesOf
-part-out l b e p q h = rw q (sym (if-false _ _ _ h))
-
-pub part-absent : (l : List ℕ) (p : Part) → p ≡ part.Absent → [] ≡ bytesOf l p
-unfolding bytesOf
-part-absent l p q = rw q
-
-pub part-refused : (l : List ℕ) (p : Part) (x : Refusal) → p ≡ part.Refused x → [] ≡ bytesOf l p
-unfolding bytesOf
-part-refused l p x q = rw q
+use Rattle.lookups.specs.Answers.{startAt, found, strToCharPos, cellStart, tagPart, cell, edge}
 
 -- ---- the answer where the check g was passed
 pub pos-good : (g good : Bool) (s : Sentence) (p : ℕ) (a : Number) → g ≡ good → not g ≡ false → a ≡ strToCharPos true s p → a ≡ strToCharPos good s p

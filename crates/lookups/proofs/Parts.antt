@@ -1,43 +1,31 @@
--- What the answered parts are: a surface's bytes, and those of a cell of Rust's padded table; positions lead back. Assumes nothing.
+-- What the answered parts are: a surface's bytes, and those of a cell of Rust's padded table; each lies within its buffer; positions lead back. Assumes nothing.
 use Prim.Native.Nat.{ℕ, zero, suc, _+_, _-_, _≤_, _<_}
 use native.Mathlib.Decide.{decLt}
 use native.Mathlib.Omega.{arith}
 use mathlib.Core.Path.{_≡_, refl, sym, ap, _∙_}
-use mathlib.Core.Bool.{true}
+use mathlib.Core.Bool.{true, false, not, _||_}
 use mathlib.Core.List.{List, [], _∷_, _++_, map}
-use borrow.Author.Tests.{le-leb, le-ltb}
+use borrow.Author.Tests.{le-ltb, leb-false, ltb-false, not-false}
+use lib.Dec.{leb, ltb}
 use lib.ListN.{length, take, drop, getD, replicate, List·getD-append, List·getD-eq-default}
 use lib.Seq.{getD-append-add}
 use Rattle.laws.specs.If.{if_then_else_}
 use Rattle.utf8.specs.Utf8.{encodes, size}
-use Rattle.sentence.specs.Sentence.{Tag, Sentence, text, rows, charPositions, bytePositions, listed, rowBytes, pad, table}
+use Rattle.sentence.specs.declared.Refusal.{Refusal}
+use Rattle.sentence.specs.Sentence.{Tag, Sentence, text, rows, count, charPositions, bytePositions, listed, pad, table}
 use Rattle.sentence.specs.Writing.{surface}
-use Rattle.sentence.specs.Refusals.{verdict}
+use Rattle.sentence.specs.Refusals.{verdict, sheetOrder}
 use Rattle.sheet.specs.declared.Record.{Record}
 use Rattle.sheet.specs.declared.Number.the-variants as number
+use Rattle.sheet.specs.declared.Part.{Part}
 use Rattle.sheet.specs.declared.Part.the-variants as part
-use Rattle.sheet.specs.Layout.{Buffers, tagsOf, Holds}
+use Rattle.sheet.specs.Layout.{Buffers, buffers, Holds, spell}
+use Rattle.sheet.specs.Check.{isSheet}
 use Rattle.sheet.proofs.Held.{length-starts}
-use Rattle.sheet.proofs.Look.{start-is, number-is, bounds, bytes-before, bytes-more, text-part, tag-part, tag-inside, tag-next, bytes-among, tag-in-row}
-use Rattle.lookups.specs.Answers.{startAt, strToCharPos, surfacePart, cell, cellStart, tagPart, bytesOf}
+use Rattle.sheet.proofs.Exact.{is-sheet}
+use Rattle.sheet.proofs.Look.{start-is, number-is, bounds, bytes-before, bytes-more, text-part, tag-part, tag-inside, tag-next, bytes-among, tag-in-row, neither, passed}
+use Rattle.lookups.specs.Answers.{startAt, strToCharPos, surfacePart, surfaceAt, cell, cellStart, tagPart, tagAt}
 use Rattle.lookups.proofs.Laws.{found-at, start-sized, row-at}
-
--- the bytes of a part that is in range
-in-range : (l : List ℕ) (b e : ℕ) → b ≤ e → e ≤ length l → bytesOf l (part.Bytes b e) ≡ take (e - b) (drop b l)
-unfolding bytesOf if_then_else_
-in-range l b e h k = rw (le-leb b e h, le-leb e (length l) k)
-
--- the bytes of a tag that starts at a byte
-tag-none : (l : List ℕ) (at : ℕ) → bytesOf l (tagPart at []) ≡ encodes []
-unfolding bytesOf tagPart encodes
-tag-none l at = refl
-
-tag-here : (l : List ℕ) (at : ℕ) (t : Tag) → at + size t ≤ length l → take (size t) (drop at l) ≡ encodes t → bytesOf l (tagPart at t) ≡ encodes t
-unfolding tagPart
-tag-here l at [] h e = tag-none l at
-tag-here l at (c ∷ t) h e =
-    let n : at + size (c ∷ t) - at ≡ size (c ∷ t) = omega arith in
-    in-range l at (at + size (c ∷ t)) (omega arith) h ∙ rw n e
 
 none : (k i : ℕ) → getD {A = Tag} (replicate k []) i [] ≡ []
 none zero i = refl
@@ -83,25 +71,85 @@ positions-back s i h =
 
 module _ {r : Record} {d : Buffers} {s : Sentence} (h : Holds r d s) where
   -- the bytes of a surface
-  pub surface-bytes : (b e : ℕ) → b ≤ e → e ≤ r .n → bytesOf (d .text-buf) (surfacePart s b e) ≡ encodes (surface s b e)
-  surface-bytes b e k l =
-      rw (start-sized h b (omega arith), start-sized h e l)
-      (in-range (d .text-buf) (size (take b (text s))) (size (take e (text s))) (bytes-more (text s) b e k) (omega (arith, bounds h, bytes-before (text s) e))
-      ∙ text-part h b e k l)
+  pub surface-bytes : (b e : ℕ) → b ≤ e → e ≤ r .n → take (startAt s e - startAt s b) (drop (startAt s b) (d .text-buf)) ≡ encodes (surface s b e)
+  surface-bytes b e k l = rw (start-sized h b (omega arith), start-sized h e l) (text-part h b e k l)
 
-  -- the bytes of a cell's tag
-  pub cell-bytes : (row column : ℕ) → row < r .n → bytesOf (d .tag-bytes-buf) (tagPart (cellStart (rows s) row column) (cell s row column)) ≡ encodes (cell s row column)
+  -- it starts before it ends, within the text
+  pub surface-fits : (b e : ℕ) → b ≤ e → e ≤ r .n → (startAt s b ≤ startAt s e) × (startAt s e ≤ length (d .text-buf))
+  surface-fits b e k l =
+      let x = start-sized h b (omega arith) in
+      let y = start-sized h e l in
+      (omega (arith, bytes-more (text s) b e k), omega (arith, bounds h, bytes-before (text s) e))
+
+  -- the bytes of a tag that its row lists, within the tag bytes
+  pub cell-here : (row column : ℕ) → row < r .n → column < length (getD (rows s) row [])
+      → (cellStart (rows s) row column + size (cell s row column) ≤ length (d .tag-bytes-buf))
+      × (take (size (cell s row column)) (drop (cellStart (rows s) row column) (d .tag-bytes-buf)) ≡ encodes (cell s row column))
   unfolding cellStart
-  cell-bytes row column k =
+  cell-here row column k l =
+      let j = listed (take row (rows s)) + column in
+      let a = row-at h row k in
+      let i : j < r .k = omega arith in
+      let t = tag-in-row h row column k l in
+      let b = bytes-among (rows s) row column (omega (arith, bounds h)) (omega arith) in
+      let n = tag-next h j i in
+      let m = tag-inside h (j + 1) (omega arith) in
+      (rw (← b, ← t) (omega (arith, bounds h)), rw (← b, ← t) (tag-part h j i))
+
+  -- a tag that is not empty is one that its row lists
+  pub cell-listed : (row column : ℕ) → (cell s row column ≡ [] → ⊥) → column < length (getD (rows s) row [])
+  cell-listed row column n =
       elim (decLt column (length (getD (rows s) row []))) [
-        | yes l ↦
-            let j = listed (take row (rows s)) + column in
-            let a = row-at h row k in
-            let i : j < r .k = omega arith in
-            let t = tag-in-row h row column k l in
-            let b = bytes-among (rows s) row column (omega (arith, bounds h)) (omega arith) in
-            let n = tag-next h j i in
-            let m = tag-inside h (j + 1) (omega arith) in
-            rw (← b, ← t) (tag-here (d .tag-bytes-buf) (rowBytes (take j (tagsOf (rows s)))) (getD (tagsOf (rows s)) j []) (omega (arith, bounds h)) (tag-part h j i))
-        | no l ↦ let e : cell s row column ≡ [] = List·getD-eq-default (getD (rows s) row []) [] {n = column} (omega arith) in rw e (tag-none _ _)
+        | yes l ↦ l
+        | no l ↦ absurd (n (List·getD-eq-default (getD (rows s) row []) [] {n = column} (omega arith)))
       ]
+
+-- ---- an answered part lies within its buffer
+apart : (p q : ℕ) (x : Refusal) → part.Refused x ≡ part.Bytes p q → ⊥
+apart p q x e = let z : _≡_ {A = ℕ} 0 1 = cc in omega arith
+
+pub tag-bounds : (at : ℕ) (t : Tag) (p q : ℕ) → tagPart at t ≡ part.Bytes p q → (p ≡ at) × (q ≡ at + size t) × (t ≡ [] → ⊥)
+unfolding tagPart
+tag-bounds at [] p q e = absurd (let z : _≡_ {A = ℕ} 0 1 = cc in omega arith)
+tag-bounds at (c ∷ t) p q e = (cc, cc, λ z. let y : _≡_ {A = ℕ} 0 1 = cc in omega arith)
+
+pub surface-within : (r : Record) (d : Buffers) (b e : ℕ) (a : Part) (p q : ℕ) → a ≡ surfaceAt (isSheet r d) (spell r d) b e → a ≡ part.Bytes p q
+    → (p ≤ q) × (q ≤ length (d .text-buf))
+unfolding surfaceAt
+surface-within r d b e a p q f g =
+    let s = spell r d in
+    let k = passed part.Refused (part.Bytes p q) (apart p q) (sheetOrder (not (isSheet r d)) (leb e b || ltb (count s) e) b false 0) (surfacePart s b e) (sym f ∙ g) in
+    let h = is-sheet r d (not-false _ (k .0 .0)) in
+    let o = neither (leb e b) (ltb (count s) e) (k .0 .1 .0) in
+    let x : startAt s b ≡ p = cc (k .1) in
+    let y : startAt s e ≡ q = cc (k .1) in
+    rw (← x, ← y) (surface-fits h b e (omega (arith, leb-false e b (o .0))) (omega (arith, ltb-false (count s) e (o .1), bounds h)))
+
+pub tag-within : (r : Record) (d : Buffers) (row column : ℕ) (a : Part) (p q : ℕ) → a ≡ tagAt (isSheet r d) (spell r d) row column → a ≡ part.Bytes p q
+    → (p ≤ q) × (q ≤ length (d .tag-bytes-buf))
+unfolding tagAt
+tag-within r d row column a p q f g =
+    let s = spell r d in
+    let t = tagPart (cellStart (rows s) row column) (cell s row column) in
+    let k = passed part.Refused (part.Bytes p q) (apart p q) (sheetOrder (not (isSheet r d)) (leb (count s) row || leb (s .columns) column) row false 0) t (sym f ∙ g) in
+    let h = is-sheet r d (not-false _ (k .0 .0)) in
+    let o = neither (leb (count s) row) (leb (s .columns) column) (k .0 .1 .0) in
+    let z = tag-bounds (cellStart (rows s) row column) (cell s row column) p q (k .1) in
+    let i = cell-here h row column (omega (arith, leb-false (count s) row (o .0), bounds h)) (cell-listed h row column (z .2)) .0 in
+    (omega (arith, z .0, z .1), omega (arith, z .1))
+
+-- the same for a caller that holds the eight slices, fact by fact
+module _ (r : Record) (ts ys ms cs bs rs es gs : List ℕ) (i j : ℕ) (a : Part) (p q : ℕ) where
+  pub surface-ordered : a ≡ surfaceAt (isSheet r (buffers ts ys ms cs bs rs es gs)) (spell r (buffers ts ys ms cs bs rs es gs)) i j → a ≡ part.Bytes p q → p ≤ q
+  surface-ordered f g = surface-within r (buffers ts ys ms cs bs rs es gs) i j a p q f g .0
+
+  pub surface-inside : a ≡ surfaceAt (isSheet r (buffers ts ys ms cs bs rs es gs)) (spell r (buffers ts ys ms cs bs rs es gs)) i j → a ≡ part.Bytes p q → q ≤ length ts
+  surface-inside f g = surface-within r (buffers ts ys ms cs bs rs es gs) i j a p q f g .1
+
+  pub tag-ordered : a ≡ tagAt (isSheet r (buffers ts ys ms cs bs rs es gs)) (spell r (buffers ts ys ms cs bs rs es gs)) i j → a ≡ part.Bytes p q → p ≤ q
+  tag-ordered f g = tag-within r (buffers ts ys ms cs bs rs es gs) i j a p q f g .0
+
+  pub tag-inside-bytes : a ≡ tagAt (isSheet r (buffers ts ys ms cs bs rs es gs)) (spell r (buffers ts ys ms cs bs rs es gs)) i j → a ≡ part.Bytes p q → q ≤ length gs
+  tag-inside-bytes f g = tag-within r (buffers ts ys ms cs bs rs es gs) i j a p q f g .1
+
+pub ruleset parts = (surface-ordered, surface-inside, tag-ordered, tag-inside-bytes)

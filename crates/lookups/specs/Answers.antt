@@ -1,10 +1,9 @@
 -- What the look-ups answer, of whether there is a sheet and of the sentence that it spells: 13 where there is none, then 14 at the first number given.
 use Prim.Native.Nat.{ℕ, zero, suc, _+_, _-_}
-use mathlib.Core.Bool.{Bool, false, not, _&&_, _||_}
+use mathlib.Core.Bool.{Bool, false, not, _||_}
 use mathlib.Core.List.{List, [], _∷_}
 use lib.Dec.{leb, ltb, eqb}
-use lib.ListN.{length, take, drop, getD}
-use Rattle.laws.specs.If.{if_then_else_}
+use lib.ListN.{take, getD}
 use Rattle.utf8.specs.Utf8.{size}
 use Rattle.sentence.specs.Sentence.{Tag, none, code, Sentence, text, marks, rows, count, charPositions, bytePositions, rowBytes, tagBytes}
 use Rattle.sentence.specs.Refusals.{verdict, sheetOrder}
@@ -68,12 +67,6 @@ unfoldable pub surfaceAt : Bool → Sentence → ℕ → ℕ → Part
 surfaceAt good s b e =
     verdict part.Refused (sheetOrder (not good) (leb e b || ltb (count s) e) b false 0)
     (surfacePart s b e)
-
--- the bytes of a part; none where it is absent, refused or out of range
-unfoldable pub bytesOf : List ℕ → Part → List ℕ
-bytesOf l (part.Bytes b e) = if leb b e && leb e (length l) then take (e - b) (drop b l) else []
-bytesOf l part.Absent = []
-bytesOf l (part.Refused x) = []
 
 -- where the i-th of some parts begins that end where told: the end before it
 abbrev pub edge : List ℕ → ℕ → ℕ

@@ -6,7 +6,7 @@ use sheet::Record;
 ghost use mathlib.Core.Path.{_≡_};
 ghost use Rattle.sheet.specs.Layout.{buffers, spell};
 ghost use Rattle.sheet.specs.Check.{isSheet};
-ghost use Rattle.lookups.specs.Answers.{charToStrPos, strToCharPos, boundaryAt, tagAt, surfaceAt, bytesOf};
+ghost use Rattle.lookups.specs.Answers.{charToStrPos, strToCharPos, boundaryAt, tagAt, surfaceAt};
 
 pub mod given;
 
@@ -269,20 +269,4 @@ pub fn surface(
         start,
         end,
     )
-}
-
-// The bytes of a part that a look-up answered.
-pub fn part_of<'a>(bytes: &'a [u8], p: Part) -> &'a [u8]
-    ensures { λ r. ⌜ now r ≡ bytesOf (now (bytes .entry)) p ⌝ }
-{
-    match p {
-        Part::Bytes { start, end } => {
-            if (start <= end) & (end <= bytes.len()) {
-                return &bytes[start..end];
-            }
-            &bytes[..0]
-        }
-        Part::Absent => &bytes[..0],
-        Part::Refused(_) => &bytes[..0],
-    }
 }

@@ -115,17 +115,19 @@ same-read f s t h k v w e =
     let d : s .columns ≡ t .columns = cc in
     ap (λ (u : Cells). record { cells = u; columns = s .columns }) c ∙ ap (λ (n : ℕ). record { cells = t .cells; columns = n }) d
 
--- of two lines that one annotated form accepts, the written lines are equal exactly when text, boundaries, column count and padded tags agree
+agrees : (s t : Sentence) → s ≡ t → Agree s t
+agrees s t e = record { texts = ap text e; boundaries = ap marks e; column-counts = ap (λ (u : Sentence). u .columns) e; padded-tags = ap table e }
+
+-- of two well-formed sentences that fit a form, the written lines are equal exactly when text, boundaries, column count and padded tags agree
+pub told-apart : (f : Form) (s t : Sentence) → Formed s → Formed t → Fits f (s .cells) → Fits f (t .cells) → (written f s ≡ written f t) ↔ Agree s t
+told-apart f s t h k v w = (λ e. agrees s t (same-read f s t h k v w e), λ a. ap (written f) (agree-same s t h k a))
+
+-- and so of two lines that one annotated form accepts
 pub canonical : (f : Form) → Annotated f → (x y : List ℕ) (s t : Sentence) → read f x ≡ sentence s → read f y ≡ sentence t → (written f s ≡ written f t) ↔ Agree s t
 canonical f an x y s t p q =
     let h = read-formed f x s p in
-    let k = read-formed f y t q in (
-      λ e. agrees s t (same-read f s t (h .0) (k .0) (fits-read f (s .cells) an (h .1)) (fits-read f (t .cells) an (k .1)) e),
-      λ a. ap (written f) (agree-same s t (h .0) (k .0) a),
-    )
-  where
-    agrees : (s t : Sentence) → s ≡ t → Agree s t
-    agrees s t e = record { texts = ap text e; boundaries = ap marks e; column-counts = ap (λ (u : Sentence). u .columns) e; padded-tags = ap table e }
+    let k = read-formed f y t q in
+    told-apart f s t (h .0) (k .0) (fits-read f (s .cells) an (h .1)) (fits-read f (t .cells) an (k .1))
 
 placed-got : (k : ℕ) (r : Run) (t : Tag) (ts : List Tag) (n : ℕ) (m : Mark) (s : Cells) → gathered r ≡ got (parsed t ts n (next m s)) → placed k r ≡ sentence (record { cells = s; columns = n })
 unfolding gathered placed built
@@ -176,11 +178,14 @@ none-inside (cell c r none s) w = (subst (All (λ t. t ≡ [])) (sym (w .0)) tt,
 none-inside (cell c r word s) w = none-inside s w
 none-inside (cell c r unknown s) w = absurd w
 
--- the sentence of a partial line survives the trip exactly when it has no unknown boundary and no present tag inside a token
-pub survives : (x : List ℕ) (s : Sentence) → read partial x ≡ sentence s → length (written tokenized s) ≤ 4096
+-- a well-formed sentence survives the trip exactly when it has no unknown boundary and no present tag inside a token
+pub trip : (s : Sentence) → Formed s → length (written tokenized s) ≤ 4096 → (read tokenized (written tokenized s) ≡ sentence s) ↔ (NoUnknown s × NoneInside (s .cells))
+trip s h le = (
+  λ g. let w = read-formed tokenized (written tokenized s) s g .1 in (no-unknown (s .cells) w, none-inside (s .cells) w),
+  λ a. read-written tokenized s (h .cells-are) (whole-if (s .columns) (s .cells) (h .cells-are) (a .0) (a .1)) le,
+)
+
+-- and so the sentence of a line of any form
+pub survives : (f : Form) (x : List ℕ) (s : Sentence) → read f x ≡ sentence s → length (written tokenized s) ≤ 4096
     → (read tokenized (written tokenized s) ≡ sentence s) ↔ (NoUnknown s × NoneInside (s .cells))
-survives x s e le =
-    let h = read-formed partial x s e in (
-      λ g. let w = read-formed tokenized (written tokenized s) s g .1 in (no-unknown (s .cells) w, none-inside (s .cells) w),
-      λ a. read-written tokenized s (h .0 .cells-are) (whole-if (s .columns) (s .cells) (h .0 .cells-are) (a .0) (a .1)) le,
-    )
+survives f x s e le = trip s (read-formed f x s e .0) le

@@ -16,8 +16,8 @@ use Rattle.laws.proofs.Facts.{reads, or-is, untrue}
 use Rattle.laws.proofs.Sized.{by-size}
 use Rattle.utf8.specs.declared.Decoded.{Decoded}
 use Rattle.utf8.specs.declared.Decoded.the-variants.{Char, Bad, End}
-use Rattle.utf8.specs.declared.Encoded.{Encoded}
-use Rattle.utf8.specs.Utf8.{utf8-1, utf8-2, utf8-3, utf8-4, charOf, charAt, walk, chars, wholes, validPrefix, values, scalars, scalar, width, encode, encodes, size, filled, encodedOf}
+use Rattle.utf8.specs.declared.given.Encoded.{Encoded}
+use Rattle.utf8.specs.Utf8.{utf8-1, utf8-2, utf8-3, utf8-4, charOf, charAt, walk, chars, wholes, validPrefix, values, scalars, scalar, width, encode, encodes, size, filled}
 use Rattle.utf8.proofs.Walk.{walk-char, walk-bad, walk-end}
 
 pub length-encode : (v : ℕ) → length (encode v) ≡ width v
@@ -228,19 +228,17 @@ read (a ∷ s) =
 pub encode-decode : (s : List ℕ) (v n : ℕ) → charAt s ≡ Char v n → Coded s v n
 encode-decode s v n e = subst (Read s) e (read s)
 
--- what `encode` answers of a scalar value holds its encoding
+-- what `encode` answers holds the encoding
 pub record Spelt (v : ℕ) (r : Encoded) : Type 0 where
   pub len-is : r .len ≡ width v
   pub bytes-are : take (width v) (r .bytes) ≡ encode v
 
-pub spelt : (v : ℕ) → scalar v ≡ true → Spelt v (encodedOf v)
-unfolding encodedOf filled if_then_else_
-spelt v h =
-    rw h
-    (record {
-      len-is = length-encode v;
-      bytes-are = take-take (width v) 4 _ (width-small v .1) ∙ take-at (encode v) _ (width v) (length-encode v);
-    })
+pub spelt : (v : ℕ) → Spelt v (filled (encode v))
+unfolding filled
+spelt v = record {
+  len-is = length-encode v;
+  bytes-are = take-take (width v) 4 _ (width-small v .1) ∙ take-at (encode v) _ (width v) (length-encode v);
+}
 
 -- ---- texts
 pub length-encodes : (vs : List ℕ) → length (encodes vs) ≡ size vs

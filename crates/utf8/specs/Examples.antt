@@ -1,10 +1,11 @@
 -- Worked examples. Each computes.
 use Prim.Native.Nat.{ℕ}
 use mathlib.Core.Path.{_≡_, refl}
+use mathlib.Core.Bool.{false}
 use mathlib.Core.List.{List, [], _∷_}
 use Rattle.laws.specs.If.{if_then_else_}
 use Rattle.utf8.specs.declared.Decoded.the-variants.{Char, Bad, End}
-use Rattle.utf8.specs.Utf8.{utf8-2, utf8-3, utf8-4, charOf, charAt, walk, wholes, validPrefix, scalar, encode, filled, encodedOf}
+use Rattle.utf8.specs.Utf8.{utf8-2, utf8-3, utf8-4, charOf, charAt, walk, wholes, validPrefix, scalar, encode, filled}
 
 euro : charAt (0xE2 ∷ 0x82 ∷ 0xAC ∷ []) ≡ Char 0x20AC 3
 unfolding charOf if_then_else_ utf8-2 utf8-3 utf8-4
@@ -22,10 +23,10 @@ prefix : validPrefix (0x41 ∷ 0xC3 ∷ 0xA9 ∷ 0xC0 ∷ 0x41 ∷ []) ≡ 3
 unfolding charOf if_then_else_ utf8-2 utf8-3 utf8-4 walk wholes
 prefix = refl
 
-euro-encoded : encodedOf 0x20AC ≡ record { bytes = 0xE2 ∷ 0x82 ∷ 0xAC ∷ 0 ∷ []; len = 3 }
-unfolding encodedOf filled scalar encode if_then_else_
+euro-encoded : filled (encode 0x20AC) ≡ record { bytes = 0xE2 ∷ 0x82 ∷ 0xAC ∷ 0 ∷ []; len = 3 }
+unfolding filled encode if_then_else_
 euro-encoded = refl
 
-surrogate-encoded : encodedOf 0xD800 ≡ record { bytes = 0 ∷ 0 ∷ 0 ∷ 0 ∷ []; len = 0 }
-unfolding encodedOf filled scalar if_then_else_
-surrogate-encoded = refl
+surrogate-not-scalar : scalar 0xD800 ≡ false
+unfolding scalar
+surrogate-not-scalar = refl

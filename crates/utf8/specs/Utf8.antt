@@ -7,7 +7,7 @@ use lib.ListN.{length, getD, take, drop}
 use lib.Dec.{leb, ltb, eqb}
 use Rattle.utf8.specs.declared.Decoded.{Decoded}
 use Rattle.utf8.specs.declared.Decoded.the-variants.{Char, Bad, End}
-use Rattle.utf8.specs.declared.Encoded.{Encoded}
+use Rattle.utf8.specs.declared.given.Encoded.{Encoded}
 
 -- %xLO-HI
 abbrev pub within : ℕ → ℕ → ℕ → Bool
@@ -123,7 +123,3 @@ size (v ∷ vs) = width v + size vs
 -- at most four bytes, and zeros up to four
 unfoldable pub filled : List ℕ → Encoded
 filled bs = record { bytes = take 4 (bs ++ 0 ∷ 0 ∷ 0 ∷ 0 ∷ []); len = length bs }
-
--- the bytes of a scalar value, and none of what is no scalar value
-unfoldable pub encodedOf : ℕ → Encoded
-encodedOf v = if scalar v then filled (encode v) else filled []

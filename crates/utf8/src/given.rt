@@ -1,13 +1,19 @@
-// Decoding where a character is known to stand: the lead byte says how long it is, and nothing is tested.
+// Decoding where a character is known to stand, and encoding of what is known to be a scalar value: nothing is tested.
 ghost use mathlib.Core.Path.{_≡_};
 ghost use mathlib.Core.Bool.{true};
-ghost use Prim.Native.Nat.{_+_, _*_, _%_, _<_};
-ghost use Rattle.utf8.specs.Utf8.{decodeAt, isChar};
+ghost use Prim.Native.Nat.{_+_, _*_, _%_, _≤_, _<_};
+ghost use Rattle.utf8.specs.Utf8.{decodeAt, isChar, scalar, encode, filled};
 ghost use Rattle.utf8.specs.declared.Decoded.the-variants.{Char};
 
 // A character and how many bytes it takes.
 pub struct Found {
     pub value: u32,
+    pub len: usize,
+}
+
+// The bytes of a scalar value, and 0 after them; `len` counts them.
+pub struct Encoded {
+    pub bytes: [u8; 4],
     pub len: usize,
 }
 
@@ -50,4 +56,44 @@ pub fn char_at(s: &[u8], at: usize) -> Found
         ),
         len: 4,
     }
+}
+
+// The bytes of a number up to 10FFFF, be it a surrogate.
+fn bytes_of(v: u32) -> Encoded
+    requires { ⌜ v ≤ 0x10FFFF ⌝ }
+    ensures { λ r. ⌜ r ≡ filled (encode v) ⌝ }
+{
+    if v <= 0x7F {
+        return Encoded {
+            bytes: [v as u8, 0, 0, 0],
+            len: 1,
+        };
+    }
+    let last = (0x80 + v % 64) as u8;
+    if v <= 0x7FF {
+        return Encoded {
+            bytes: [(0xC0 + v / 64) as u8, last, 0, 0],
+            len: 2,
+        };
+    }
+    let third = (0x80 + v / 64 % 64) as u8;
+    if v <= 0xFFFF {
+        return Encoded {
+            bytes: [(0xE0 + v / 4096) as u8, third, last, 0],
+            len: 3,
+        };
+    }
+    let second = (0x80 + v / 4096 % 64) as u8;
+    Encoded {
+        bytes: [(0xF0 + v / 262144) as u8, second, third, last],
+        len: 4,
+    }
+}
+
+// The bytes of a scalar value.
+pub fn encode(v: u32) -> Encoded
+    requires { ⌜ scalar v ≡ true ⌝ }
+    ensures { λ r. ⌜ r ≡ filled (encode v) ⌝ }
+{
+    bytes_of(v)
 }

@@ -2,6 +2,7 @@
 // A case is a letter, its kind, and hex digits, two to a byte. A line that starts with # is no case.
 use casework::find;
 use casework::part;
+use utf8::given::Encoded;
 
 // Writes a byte as two digits.
 fn show_byte(b: u8) {
@@ -45,12 +46,23 @@ fn valid_case(b: &[u8]) {
     io::print_decimal(1, utf8::valid_up_to(b) as u64);
 }
 
+// The bytes of a number; none of what is no scalar value.
+fn encoded(v: u32) -> Encoded {
+    if utf8::is_scalar(v) {
+        return utf8::given::encode(v);
+    }
+    Encoded {
+        bytes: [0, 0, 0, 0],
+        len: 0,
+    }
+}
+
 // E: a number of four bytes; written are the length and the four bytes that it is encoded in.
 fn encode_case(b: &[u8]) {
     if b.len() < 4 {
         return;
     }
-    let e = utf8::encode(number(b[0], b[1], b[2], b[3]));
+    let e = encoded(number(b[0], b[1], b[2], b[3]));
     io::print_decimal(1, e.len as u64);
     io::write_all(1, b" ");
     let r = e.bytes;

@@ -1,8 +1,8 @@
 use Rattle.laws.proofs.Tests.{tests}
 use Rattle.utf8.specs.Utf8.{filled, encode}
 use borrow.Author.Needs.{needs}
-use Rattle.utf8.proofs.bytes_of.Statement.{statement}
-use Rattle.utf8.proofs.bytes_of.Tie as tie
+use Rattle.utf8.proofs.given.bytes_of.Statement.{statement}
+use Rattle.utf8.proofs.given.bytes_of.Tie as tie
 
 cast-t6 : tie.Need-cast-t6
 cast-t6 c = search needs
