@@ -9,4 +9,5 @@ pub mod Pieces
 pub mod Turns
 pub mod Calls
 pub mod Runs
+pub mod Whole
 pub mod Went

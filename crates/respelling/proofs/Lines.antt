@@ -13,19 +13,19 @@ use Rattle.respelling.specs.Respell.{before, lines}
 use Rattle.respelling.specs.Stream.{lineLen, pastLine}
 
 module _ (b : ℕ) (s : List ℕ) where
-  len-feed : eqb b 10 ≡ true → lineLen (b ∷ s) ≡ 0
+  pub len-feed : eqb b 10 ≡ true → lineLen (b ∷ s) ≡ 0
   unfolding lineLen
   len-feed e = if-true _ _ _ e
 
-  len-byte : eqb b 10 ≡ false → lineLen (b ∷ s) ≡ suc (lineLen s)
+  pub len-byte : eqb b 10 ≡ false → lineLen (b ∷ s) ≡ suc (lineLen s)
   unfolding lineLen
   len-byte e = if-false _ _ _ e
 
-  lines-feed : eqb b 10 ≡ true → lines (b ∷ s) ≡ [] ∷ lines s
+  pub lines-feed : eqb b 10 ≡ true → lines (b ∷ s) ≡ [] ∷ lines s
   unfolding lines
   lines-feed e = if-true _ _ _ e
 
-  lines-byte : eqb b 10 ≡ false → lines (b ∷ s) ≡ before b (lines s)
+  pub lines-byte : eqb b 10 ≡ false → lines (b ∷ s) ≡ before b (lines s)
   unfolding lines
   lines-byte e = if-false _ _ _ e
 

@@ -166,7 +166,7 @@ pub turned-once : {d : Done} {out : List ℕ} {r r′ : Turn} {o o′ : List ℕ
 turned-once p q = (cc, cc)
 
 -- ---- a line that has not ended
-open-front : (t r : List ℕ) → length (t ++ r) ≤ lineLen (t ++ r) → length t ≤ lineLen t
+pub open-front : (t r : List ℕ) → length (t ++ r) ≤ lineLen (t ++ r) → length t ≤ lineLen t
 open-front t r h = on (ltb (lineLen t) (length t)) refl
   where
     on : (b : Bool) → ltb (lineLen t) (length t) ≡ b → length t ≤ lineLen t

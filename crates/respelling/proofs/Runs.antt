@@ -23,11 +23,11 @@ empty : (l : List ℕ) → length l ≡ 0 → l ≡ []
 empty [] h = refl
 empty (b ∷ l) h = absurd (omega arith)
 
-none-due : (a : State) → isDue a ≡ false → a .due ≡ []
+pub none-due : (a : State) → isDue a ≡ false → a .due ≡ []
 unfolding isDue
 none-due a e = empty (a .due) (omega (arith, ltb-false 0 (length (a .due)) e))
 
-neither : (b c : Bool) → (b || c) ≡ false → b ≡ false
+pub neither : (b c : Bool) → (b || c) ≡ false → b ≡ false
 neither true c e = e
 neither false c e = refl
 
@@ -88,7 +88,7 @@ owes-move room h o (by-write {a} n d) = rw append-nil (owes-write a n o)
 owes-move room h o (by-nothing c) = rw (append-nil, append-nil) o
 owes-move room h o (by-failure {a} c) = rw (append-nil, append-nil) (owes-fail a o)
 
-owes : (room : ℕ) → 8194 ≤ room → {x w : List ℕ} {a : State} → Run room x w a → Owes x w a
+pub owes : (room : ℕ) → 8194 ≤ room → {x w : List ℕ} {a : State} → Run room x w a → Owes x w a
 unfolding begins
 owes room h start = record { whole = λ y e. refl; rest = λ s e. absurd (false≢true e) }
 owes room h (moves r m) = owes-move room h (owes room h r) m

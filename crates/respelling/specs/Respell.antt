@@ -1,5 +1,6 @@
 -- The program: its answer to a line, and to a whole input.
 use Prim.Native.Nat.{ℕ}
+use mathlib.Core.Bool.{Bool, false, _||_}
 use mathlib.Core.List.{List, [], _∷_, _++_}
 use lib.Dec.{eqb}
 use Rattle.laws.specs.If.{if_then_else_}
@@ -44,3 +45,13 @@ answers (l ∷ ls) = answer l ++ answers ls
 -- all that is printed for an input
 unfoldable pub respell : List ℕ → List ℕ
 respell s = answers (lines s)
+
+-- an LF stands there
+unfoldable pub fed : List ℕ → Bool
+fed [] = false
+fed (b ∷ s) = eqb b 10 || fed s
+
+-- the lines of an input whose LF is there: the bytes up to the last LF
+unfoldable pub whole : List ℕ → List ℕ
+whole [] = []
+whole (b ∷ s) = if fed (b ∷ s) then b ∷ whole s else []
