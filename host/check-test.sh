@@ -17,12 +17,12 @@ asked() {
     echo "$status"
 }
 
-# notices SPOIL SAID: the part that is made wrong, and what every difference that is listed must name.
+# notices SPOIL SAID [ALSO]: the part that is made wrong, and what every difference that is listed must name; ALSO is another name that it may have.
 notices() {
     local status other
     count=$((count + 1))
     status=$(asked "$1")
-    other=$(grep -E "^[RTP] '" "$said" | grep -vF "': $2" | head -n 1)
+    other=$(grep -E "^[RTP] '" "$said" | grep -vF -e "': $2" -e "': ${3:-$2}" | head -n 1)
     if [ "$status" != 1 ] || [ -n "$other" ] || ! grep -qF "': $2" "$said"; then
         echo "check does not name '$2', and nothing else, where the port is wrong in '$1' (status $status):"
         head -n 5 "$said" | cut -c1-300
@@ -93,9 +93,9 @@ done
 # The token step.
 notices 'step: refuses' "the step's answer"
 notices 'step: answer' "the step's answer"
-notices 'step: start' 'a token: '
-notices 'step: end' 'a token: '
-notices 'step: number behind' 'the number behind a token: '
+notices 'step: start' 'a token: ' 'the step from a place of any kind and its token: '
+notices 'step: end' 'a token: ' 'the step from a place of any kind and its token: '
+notices 'step: number behind' 'the number behind a token: ' 'the numbers behind the cursor at the end: '
 notices 'step: cursor' "the cursor at the end: "
 notices 'step: second where done' "the numbers behind the cursor at the end: "
 notices 'step: cursor past the end' 'the step from a place of any kind and its cursor: '

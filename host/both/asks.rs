@@ -168,13 +168,14 @@ impl Asks {
             self.is_sheet("after a writer, the", answer)?;
         }
         self.tokens(answer, lengths)?;
+        self.is_sheet("after the steps, the", answer)?;
         match self.draw.below(8) {
             0 => self.steps(form, line, answer, lengths),
             1 => self.unknown_form(answer, lengths),
             2 | 3 => self.changed(answer),
             _ => Ok(()),
         }?;
-        self.is_sheet("after the steps, the", answer)
+        self.is_sheet("after all calls, the", answer)
     }
 
     /// The sentence written, with room enough and, now and then, with a byte too little.
