@@ -15,7 +15,7 @@ echo '// no code' >"$work/sources/sentence.rs"
 printf '        for (b, s) in sentence\n        sentence.set_predictor(self);\n' >"$work/sources/predictor.rs"
 
 # The real programs that the scripts may call; every other is a stand-in, or missing.
-for name in awk bash basename cat cp cut diff dirname env flock grep head mkdir mktemp nproc rm sed sha256sum sh tail tee timeout wc; do
+for name in awk bash basename cat cp cut diff dirname env find flock grep head mkdir mktemp nproc rm sed sha256sum sh sort tail tee timeout wc xargs; do
     ln -s "$(command -v "$name")" "$work/tools/$name" || exit 2
 done
 
@@ -29,7 +29,12 @@ stand_in "$here/checks/run.sh" <<<'printf "$CHECKS_SAYS"; exit "$CHECKS_EXIT"'
 stand_in "$work/bin/rt" <<'RT'
 case $1 in
 version) echo "$KIT" ;;
-staticlib) echo 'rt: a word on staticlib'; exit "$RT_EXIT" ;;
+staticlib)
+    echo 'rt: a word on staticlib'
+    mkdir -p target/staticlib
+    [ "$RT_EXIT" != 0 ] || echo '' >"target/staticlib/lib$2.a"
+    exit "$RT_EXIT"
+    ;;
 *) printf "$RT_SAYS"; exit "$RT_EXIT" ;;
 esac
 RT
@@ -183,9 +188,11 @@ for words in 'both.sh check' link.sh; do
     ends "$words without the sources" 2 'VAPORETTO_SRC' VAPORETTO_SRC="$work/none" "$@"
     without=rt ends "$words without rt" 2 "this is missing: rt, the kit's command" "$@"
     without=rustc installs=yes ends "$words without a compiler" 2 'this is missing: rustc 1.83' "$@"
+    rm -rf "$here/target"
     ends "$words where rt fails" 2 $'a word on staticlib\nhost/link.sh: \'rt staticlib exports\' failed' RT_EXIT=1 "$@"
     ends "$words where the compiler fails" 2 $'a word of the compiler\nhost/link.sh: the compiler failed' "$@"
 done
+rm -rf "$here/target"
 ends 'both that is not built' 2 'host/both.sh: the program could not be built' RT_EXIT=1 bash "$here/host/both.sh" check
 for words in build.sh 'record.sh --check'; do
     # shellcheck disable=SC2086
