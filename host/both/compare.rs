@@ -21,7 +21,7 @@ pub fn command(words: &[&str]) -> Outcome {
     let (form, files) = match words {
         [word, ..] if word.starts_with('-') => return Err(Failure::Usage(format!("compare does not know '{word}'"))),
         [] | [_] => return Err(Failure::Usage("compare takes a form and one or more files".into())),
-        [form, files @ ..] => (Form::named(form).ok_or(Failure::Usage(format!("'{form}' is no form")))?, files),
+        [form, files @ ..] => (Form::named(form).ok_or(Failure::Usage(format!("'{form}' is no form: T, P or R")))?, files),
     };
     Report { tsv, out: BufWriter::new(stdout()), port: Port::new(), said: Instant::now() }.files(form, files)
 }

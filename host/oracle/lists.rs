@@ -2,6 +2,7 @@
 
 use crate::answer::{hex, list, outcome, read, Read};
 use crate::{acts, answer, cases};
+use std::io::{stdout, Write};
 use std::path::Path;
 use vaporetto::CharacterType;
 
@@ -12,7 +13,7 @@ pub fn write(folder: &Path) -> std::io::Result<()> {
         std::fs::write(folder.join(name), lines.join("\n") + "\n")?;
         let bytes: usize = lines.iter().map(|line| line.len() + 1).sum();
         let longest = lines.iter().map(String::len).max().unwrap_or(0);
-        println!("{name}: {} answers, {bytes} bytes, longest line {longest}", lines.len());
+        writeln!(stdout(), "{name}: {} answers, {bytes} bytes, longest line {longest}", lines.len())?;
     }
     Ok(())
 }
