@@ -25,7 +25,12 @@ stand_in() {
     chmod +x "$1"
 }
 stand_in "$here/host/check.sh" <<<'echo the host is run; printf "$HOST_SAYS"; exit "$HOST_EXIT"'
-stand_in "$here/checks/run.sh" <<<'printf "$CHECKS_SAYS"; exit "$CHECKS_EXIT"'
+stand_in "$here/checks/run.sh" <<'CHECKS'
+. host/tools.sh
+command -v python3 >/dev/null || { packages update && packages install python3; }
+printf "$CHECKS_SAYS"
+exit "$CHECKS_EXIT"
+CHECKS
 stand_in "$work/bin/rt" <<'RT'
 case $1 in
 version) echo "$KIT" ;;
@@ -147,6 +152,7 @@ without=rt expect 'rt missing' 1 '0 passed, 1 failed' 'nothing else was run' "rt
 # Left out on purpose.
 word=--without-rust
 expect 'without Rust' 0 '8 passed, 0 failed' 'the Rust part was left out on purpose' x
+without='rustc cc python3' expect 'without Rust, and only the sources there' 0 '8 passed, 0 failed' 'on purpose' x MACHINE=aarch64
 without='rustc cc python3' expect 'without Rust or anything of it' 0 '8 passed, 0 failed' 'on purpose' x VAPORETTO_SRC="$work/none" MACHINE=riscv64
 expect 'without Rust, a crate not proved' 1 '7 passed, 1 failed' 'on purpose' x RT_SAYS='x\n2 passed, 1 failed\n' RT_EXIT=1
 expect 'without Rust, a check fails' 1 '7 passed, 1 failed' 'on purpose' z CHECKS_SAYS='z\n4 passed, 1 failed\n' CHECKS_EXIT=1
@@ -169,9 +175,9 @@ ends 'an unknown word' 2 "there is no '--quick'" bash "$here/test.sh" --quick
 ends 'an unknown word behind another' 2 "there is no 'more'" bash "$here/test.sh" --without-rust more
 
 # The host's own part, for want of something.
-without=rt ends 'the host without rt' 1 "missing: rt, the kit's command" bash "$here/host/whole.sh"
-without=python3 installs=yes ends 'the host without python3' 1 'missing: python3' bash "$here/host/whole.sh"
-without=rustc installs=yes ends 'the host without a compiler' 1 'missing: rustc 1.83' bash "$here/host/whole.sh"
+without=rt ends 'the host without rt' 1 "host: FAILED: nothing was run, for this is missing: rt, the kit's command" bash "$here/host/whole.sh"
+without=python3 installs=yes ends 'the host without python3' 1 'nothing was run, for this is missing: python3' bash "$here/host/whole.sh"
+without=rustc installs=yes ends 'the host without a compiler' 1 'nothing was run, for this is missing: rustc 1.83' bash "$here/host/whole.sh"
 ends 'the host without the sources' 1 $'VAPORETTO_SRC to the folder vaporetto/src of a checkout)\n0 passed, 1 failed' VAPORETTO_SRC="$work/none" bash "$here/host/whole.sh"
 
 # The words of the host's scripts, and what they cannot do: status 2, and a line that says so.
