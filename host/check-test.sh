@@ -13,7 +13,7 @@ count=0
 # What `check` ends with on some drawn lines where a part is made wrong; what it says is kept.
 asked() {
     local status=0
-    SPOIL=$1 "${run[@]}" "$out/x86/both_wrong" check --lines 400 >"$said" 2>&1 || status=$?
+    SPOIL=$1 "${run[@]}" "$out/x86/both_wrong" check --lines 300 >"$said" 2>&1 || status=$?
     echo "$status"
 }
 
@@ -47,7 +47,7 @@ for part in text types boundaries 'char positions' 'byte positions' 'row ends' '
     notices "reader: $part where refused" "the $part of a refused reader: "
 done
 notices 'reader: numbers where refused' 'the numbers of a refused reader: '
-for number in 2 3 4 5 6 7 8 9 10; do
+for number in 1 2 3 4 5 6 7 8 9 10; do
     notices "reader: number $number" "the reader's answer to a line that is to be refused: "
     notices "reader: place $number" "the reader's answer to a line that is to be refused: "
     notices "reader: accepts $number" "the reader's answer to a line that is to be refused: "
@@ -61,8 +61,8 @@ done
 # The conversion.
 notices 'conversion: refuses' "the conversion's answer with room enough"
 notices 'conversion: answer' "the conversion's answer with room enough"
-notices 'conversion: number 2' "the conversion's answer with room enough"
-notices 'conversion: place 2' "the conversion's answer with room enough"
+for number in 1 2 3 4 5 6 7 8 9 10; do notices "conversion: number $number" "the conversion's answer with room enough"; done
+notices 'conversion: place' "the conversion's answer "
 notices 'conversion: accepts 2' "the conversion's answer with room enough"
 notices 'conversion: line' 'the converted line: '
 notices 'conversion: before' 'what stands before the converted line: '

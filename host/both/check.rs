@@ -38,21 +38,21 @@ fn options(words: &[&str]) -> Result<Options, Failure> {
 pub fn command(words: &[&str]) -> Outcome {
     let Options { long_run, only, seed } = options(words)?;
     let (mut run, mut draw) = (Run::new(seed), Draw::new(seed));
-    if let Some(count) = only {
-        for _ in 0..count {
-            run.line(lines::drawn(&mut draw))?;
+    let (drawn, near, wide, most) = match only {
+        Some(count) => (count, count.div_ceil(50), count.div_ceil(50), 200),
+        None if long_run => (600_000, 4_000, 20_000, 1_000),
+        None => (2_500, 20, 60, 200),
+    };
+    if only.is_none() {
+        for asked in lines::recorded().into_iter().chain(lines::short(long_run)) {
+            run.line(asked)?;
         }
-        return Ok(run.finish()?);
-    }
-    let (drawn, near, wide, most) = if long_run { (600_000, 4_000, 20_000, 1_000) } else { (2_500, 20, 60, 200) };
-    for asked in lines::recorded().into_iter().chain(lines::short(long_run)) {
-        run.line(asked)?;
     }
     for _ in 0..drawn {
         run.line(lines::drawn(&mut draw))?;
     }
     for i in 0..near {
-        run.line(lines::near_limit(&mut draw, FORMS[i % 3]))?;
+        run.line(lines::near_limit(&mut draw, FORMS[i as usize % 3]))?;
     }
     for _ in 0..wide {
         run.line(lines::wide(&mut draw, most))?;
