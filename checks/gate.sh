@@ -6,7 +6,7 @@ top=$(cd "$(dirname "${BASH_SOURCE[0]}")/.." && pwd)
 work=$(mktemp -d) || exit 2
 trap 'rm -rf "$work"' EXIT
 here=$work/here cases=0
-mkdir -p "$work"/{bin,tools,away,tmp,home,usr/bin,sources} "$here"/{checks,crates/one}
+mkdir -p "$work"/{bin,tools,away,tmp,home,debian/bin,sources} "$here"/{checks,crates/one}
 cp -R "$top/test.sh" "$top/.ci" "$top/host" "$here/"
 mv "$here/host/check.sh" "$here/host/whole.sh"
 echo 'one: # a crate' >"$here/crates.txt"
@@ -64,7 +64,7 @@ run() {
     for name in ${without-}; do mv "$work/bin/$name" "$work/away/"; done
     got=0
     text=$(cd / && env -i PATH="$work/bin:$work/tools" HOME="$work/home" TMPDIR="$work/tmp" CALLED="$work/called" AWAY="$work/away" \
-        IGHDELMUR_USR="$work/usr" VAPORETTO_SRC="$work/sources" KIT='kit 1' RUSTC='rustc 1.83.0 (x)' MACHINE=x86_64 USER_ID=0 APT_GIVES= \
+        IGHDELMUR_USR="$work/debian" VAPORETTO_SRC="$work/sources" KIT='kit 1' RUSTC='rustc 1.83.0 (x)' MACHINE=x86_64 USER_ID=0 APT_GIVES= \
         RT_SAYS='x\n3 passed, 0 failed\n' RT_EXIT=0 CHECKS_SAYS='z\n5 passed, 0 failed\n' CHECKS_EXIT=0 \
         HOST_SAYS='y\n2 passed, 0 failed\n' HOST_EXIT=0 "$@" </dev/null 2>&1) || got=$?
     for name in ${without-}; do mv "$work/away/$name" "$work/bin/"; done
@@ -84,7 +84,7 @@ tidy() {
     *) [ ! -f "$work/called" ] || wrong "$1" "this is installed: $(cat "$work/called")" ;;
     esac
     [ -z "$(ls -A "$work/tmp")" ] || wrong "$1" 'a temporary file is left'
-    rm -rf "$work/usr/bin"/*
+    rm -f "${work:?}/debian/bin"/*
 }
 
 # expect NAME STATUS LAST BEFORE SAID VAR=VALUE..: how test.sh ends on the word `word`: its last line, what the line before has, and what it says
@@ -160,10 +160,10 @@ unset word host
 
 # What is missing and can be installed is, and then the host is run.
 without=rustc installs=yes expect 'a compiler installed' 0 '10 passed, 0 failed' '' 'rustc-web' APT_GIVES=rustc
-mkdir -p "$work/usr/lib/rustlib/x86_64-unknown-linux-gnu/lib" "$work/usr/x86_64-linux-gnu/lib"
-touch "$work/usr/lib/rustlib/x86_64-unknown-linux-gnu/lib/libstd-1.rlib" "$work/usr/x86_64-linux-gnu/lib/Scrt1.o"
-for name in rustc rustdoc; do cp "$work/bin/rustc" "$work/usr/bin/$name"; done
-stand_in "$work/usr/bin/qemu-x86_64" <<<'exit 1'
+mkdir -p "$work/debian/lib/rustlib/x86_64-unknown-linux-gnu/lib" "$work/debian/x86_64-linux-gnu/lib"
+touch "$work/debian/lib/rustlib/x86_64-unknown-linux-gnu/lib/libstd-1.rlib" "$work/debian/x86_64-linux-gnu/lib/Scrt1.o"
+for name in rustc rustdoc; do cp "$work/bin/rustc" "$work/debian/bin/$name"; done
+stand_in "$work/debian/bin/qemu-x86_64" <<<'exit 1'
 stand_in "$work/bin/x86_64-linux-gnu-gcc" <<<'exit 1'
 expect 'an Arm machine with all that is needed' 0 '10 passed, 0 failed' '2 passed' y MACHINE=aarch64
 
