@@ -2,9 +2,12 @@
 # Builds target/host/oracle and its tests; does nothing where nothing has changed since.
 set -eu
 . "$(dirname "${BASH_SOURCE[0]}")/tools.sh"
-find_src || { echo "host/build.sh: no sentence.rs and predictor.rs: set VAPORETTO_SRC to the original's vaporetto/src"; exit 1; }
-find_rustc || { echo 'host/build.sh: no rustc of 1.83 or later'; exit 1; }
-mkdir -p "$out"
+no_words 'usage: host/build.sh
+Builds target/host/oracle, the original as a program that answers lines, and its tests, where something has changed since.
+Status 0: it stands there; 2: it could not be built.' "$@"
+find_src || give_up_without "$(no_src)"
+find_rustc || give_up_without "$(no_rustc)"
+building "$out"
 
 stamp=$("$rustc" --version; echo "$src"; cat "$src/sentence.rs" "$src/predictor.rs" "$here"/{build,tools}.sh "$here"/{original,oracle}/*.rs | sha256sum)
 [ "$stamp" != "$(cat "$out/stamp" 2>/dev/null)" ] || exit 0

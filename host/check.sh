@@ -2,8 +2,11 @@
 # The host's checks: a line for each, and 'N passed, M failed' as the last.
 set -u
 . "$(dirname "${BASH_SOURCE[0]}")/tools.sh"
+no_words "usage: host/check.sh
+The Rust part of the gate: the original against what is recorded of it, and against the port. It takes about two minutes.
+The last line is 'N passed, M failed'. Status 0: M is 0; 1: it is not, or something that is needed is missing." "$@"
 passed=0 failed=0
-log=$(mktemp)
+log=$(mktemp) || exit 2
 trap 'rm -f "$log"' EXIT
 
 # Runs a check by its name; what it printed is shown where it fails.
@@ -21,6 +24,11 @@ check() {
     fi
 }
 
+# The same, with what it printed shown also where it passes.
+shown() {
+    check "$@" && sed 's/^/    /' "$log"
+}
+
 # The examples in the original's own comments, run on the build with the stand-ins.
 examples() {
     VAPORETTO_SRC=$src EXTRACT=$out "$rustdoc" --edition 2021 --test --crate-name vaporetto \
@@ -28,56 +36,30 @@ examples() {
         grep -q '^test result: ok\. [1-9]' "$log"
 }
 
-# The program `respell` beside the oracle, on generated lines.
-respelled() {
-    if ! command -v rt >/dev/null; then
-        echo 'host: not run, for rt is not at hand: respell beside the oracle'
-    elif ! command -v python3 >/dev/null; then
-        echo 'host: not run, for there is no python3 here: what cases expects, respell beside the oracle'
-    else
-        check 'what cases asks and expects, made again, shows no difference' python3 "$here/../crates/cases/expected.py" --check
-        check 'respell accepts and writes as the oracle on generated lines' \
-            python3 "$here/respelled.py" "$out/oracle" bash "$here/../respell.sh" && sed 's/^/    /' "$log"
-    fi
+# The last line and the verdict.
+finish() {
+    echo "$passed passed, $failed failed"
+    [ "$failed" = 0 ]
+    exit
 }
 
-# The original and the port in one program.
-linked() {
-    if ! [ -d "$here/../crates/exports" ]; then
-        echo 'host: not run, for crates/exports is not there: the port beside the original'
-    elif ! command -v rt >/dev/null; then
-        echo 'host: not run, for rt is not at hand: the port beside the original'
-    elif ! find_x86; then
-        echo 'host: not run, for there is no compiler here for x86-64, nor could one be installed: the port beside the original'
-    elif check 'the port and the original link into one program' "$here/link.sh"; then
-        check 'the port answers as the original on generated lines' "${run[@]}" "$out/x86/both" check && sed 's/^/    /' "$log"
-        check 'compare explains what differs on the sample, and reports a wrong port' "$here/compare-test.sh"
-    fi
-}
-
-# The examples of calling the port from C and from Rust.
-called() {
-    if ! command -v rt >/dev/null; then
-        echo 'host: not run, for rt is not at hand: the examples in C and in Rust'
-    elif ! find_x86; then
-        echo 'host: not run, for there is no compiler here for x86-64, nor could one be installed: the examples in C and in Rust'
-    else
-        check 'the examples in C and in Rust link the port and print what they should' "$here/example.sh"
-    fi
-}
-
-check 'the gate adds up its parts and fails where it should' "$here/gate-test.sh"
-if ! find_src && [ -z "${VAPORETTO_SRC-}" ]; then
-    echo "host: not run, for the original's sources are not at hand (VAPORETTO_SRC): the oracle, its tests, the recorded lists, the port beside the original"
-elif ! find_rustc; then
-    echo 'host: not run, for there is no rustc of 1.83 or later, nor could one be installed: the oracle, its tests, the recorded lists, the port beside the original'
-elif check 'the original, unchanged, compiles beside the stand-ins' "$here/build.sh"; then
+lacking >"$log"
+if [ -s "$log" ]; then
+    failed=$(wc -l <"$log")
+    sed 's/^/host: FAILED: nothing was run, for this is missing: /' "$log"
+    finish
+fi
+if check 'the original, unchanged, compiles beside the stand-ins' "$here/build.sh"; then
     check "the original's own examples" examples
     check "the oracle's tests" "$out/oracle_tests"
     check 'the recorded lists, made again, show no difference' "$here/record.sh" --check
-    respelled
-    linked
+    check 'what cases asks and expects, made again, shows no difference' python3 "$here/../crates/cases/expected.py" --check
+    shown 'respell accepts and writes as the oracle on generated lines' python3 "$here/respelled.py" "$out/oracle" bash "$here/../respell.sh"
 fi
-called
-echo "$passed passed, $failed failed"
-[ "$failed" = 0 ]
+if check 'the port and the original link into one program' "$here/link.sh"; then
+    shown 'the port answers as the original on generated lines' "${run[@]}" "$out/x86/both" check
+    shown 'check notices and names each part of a wrong port' "$here/check-test.sh"
+    check 'compare explains what differs on the sample, reports a wrong port, and says what it cannot do' "$here/compare-test.sh"
+fi
+check 'the examples in C and in Rust link the port and print what they should' "$here/example.sh"
+finish

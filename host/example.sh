@@ -2,17 +2,25 @@
 # Builds host/example.c and host/example.rs with the static library of crates/convert, and holds what they print to what is expected.
 set -eu
 . "$(dirname "${BASH_SOURCE[0]}")/tools.sh"
-find_x86 || { echo 'host/example.sh: no rustc of 1.83 or later that links for x86-64'; exit 1; }
+no_words 'usage: host/example.sh
+Builds host/example.c and host/example.rs with the static library of crates/convert, runs both and shows what they print.
+Status 0: it is what is expected; 1: it is not; 2: they could not be built.' "$@"
+command -v rt >/dev/null || give_up_without "$(no_rt)"
+find_x86 || give_up_without "$(no_x86)"
 out=$out/example
-mkdir -p "$out"
-(cd "$here/.." && rt staticlib convert) >"$out/staticlib.log" 2>&1 </dev/null || { cat "$out/staticlib.log"; exit 1; }
+building "$out"
+libraries "$out/staticlib.log" convert
 archives=${here%/*}/target/staticlib
 
-"${cc[@]}" -std=c11 -Wall -Wextra -Werror -O -o "$out/in_c" "$here/example.c" "$archives/libconvert.a"
-"${x86[@]}" --edition 2021 -O -L "$archives" -o "$out/in_rust" "$here/example.rs"
+"${cc[@]}" -std=c11 -Wall -Wextra -Werror -O -o "$out/in_c" "$here/example.c" "$archives/libconvert.a" || give_up 'the compiler of C failed: its words are above'
+"${x86[@]}" --edition 2021 -O -L "$archives" -o "$out/in_rust" "$here/example.rs" || give_up 'the compiler of Rust failed: its words are above'
 printf '%s\n' 'a/x|b/' 'refused: 6 at 2' '猫/名詞|が/助詞' >"$out/expected"
 for program in in_c in_rust; do
-    "${run[@]}" "$out/$program" 'a/x b' 'a  b' '猫/名詞 が/助詞' >"$out/printed"
+    status=0
+    "${run[@]}" "$out/$program" 'a/x b' 'a  b' '猫/名詞 が/助詞' >"$out/printed" || status=$?
     cat "$out/printed"
-    cmp "$out/expected" "$out/printed"
+    if [ "$status" != 0 ] || ! cmp "$out/expected" "$out/printed"; then
+        echo "host/example.sh: $out/$program ends with status $status and prints the above; expected are the lines of $out/expected" >&2
+        exit 1
+    fi
 done

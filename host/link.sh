@@ -3,14 +3,18 @@
 # Beside it stands both_wrong, whose port can be made wrong: it tests whether that is reported.
 set -eu
 . "$(dirname "${BASH_SOURCE[0]}")/tools.sh"
-find_src || { echo "host/link.sh: no sentence.rs and predictor.rs: set VAPORETTO_SRC to the original's vaporetto/src"; exit 1; }
-find_x86 || { echo 'host/link.sh: no rustc of 1.83 or later that links for x86-64'; exit 1; }
+no_words 'usage: host/link.sh
+Builds target/host/x86/both, the original and the port in one program, where something has changed since; host/both.sh runs it.
+Status 0: it stands there; 2: it could not be built.' "$@"
+find_src || give_up_without "$(no_src)"
+command -v rt >/dev/null || give_up_without "$(no_rt)"
+find_x86 || give_up_without "$(no_x86)"
 out=$out/x86
-mkdir -p "$out"
-(cd "$here/.." && rt staticlib exports && rt staticlib convert) >"$out/staticlib.log" 2>&1 </dev/null || { cat "$out/staticlib.log"; exit 1; }
+building "$out"
+libraries "$out/staticlib.log" exports convert
 archives=${here%/*}/target/staticlib
 
-stamp=$("${x86[@]}" --version; echo "$src"; cat "$archives"/lib{exports,convert}.a "$src/sentence.rs" "$src/predictor.rs" "$here"/{link,tools}.sh "$here"/*/*.rs | sha256sum)
+stamp=$("${x86[@]}" --version; echo "$src"; cat "$archives"/lib{exports,convert}.a "$src/sentence.rs" "$src/predictor.rs" "$here"/{link,tools}.sh "$here"/*/*.rs "$here/both/usage.txt" | sha256sum)
 [ "$stamp" != "$(cat "$out/stamp" 2>/dev/null)" ] || exit 0
 rm -f "$out/stamp"
 extract "$out"

@@ -4,7 +4,7 @@
 Usage: respelled.py ORACLE RESPELL... [--long]
 RESPELL is the command that runs the program. Lines: every short one over a small alphabet, lines drawn from a fixed seed,
 lines around each limit, and damaged ones; --long draws some hundred thousand. Prints how many lines were compared and
-each difference; exit status 1 where there is one.
+each difference. Status 0: none; 1: there is one; 2: bad usage, or a program that could not be run.
 """
 import random
 import subprocess
@@ -89,6 +89,12 @@ def wanted(line, answer, field):
 def main():
     words = [w for w in sys.argv[1:] if w != "--long"]
     long = "--long" in sys.argv
+    if words[:1] == ["--help"]:
+        print(__doc__.strip())
+        return 0
+    if len(words) < 2:
+        print(__doc__.strip(), file=sys.stderr)
+        return 2
     oracle, respell = words[0], words[1:]
     compared = different = 0
     rounds = [list(short_lines(3 if not long else 5)), list(limit_lines())]
@@ -96,6 +102,9 @@ def main():
     for lines in rounds:
         asked = [(form, line) for line in lines for form in "RTP"]
         told = answers(oracle, [(f, l if len(l) <= 4096 else b"") for f, l in asked])
+        if len(told) != len(asked):
+            print(f"the oracle answered {len(told)} lines for {len(asked)}")
+            different += 1
         pairs = [(f, w, l, t) for (f, l), t in zip(asked, told) for w in "TP"]
         text = b"".join(f.encode() + w.encode() + l + b"\n" for f, w, l, t in pairs)
         out = subprocess.run(respell, input=text, capture_output=True, check=True).stdout.split(b"\n")
@@ -110,7 +119,13 @@ def main():
                 if different <= 20:
                     print(f"{f}{w} {l[:200]!r}: wanted {want[:200]!r}, got {got[:200]!r}")
     print(f"{compared} lines compared, {different} differ")
-    sys.exit(1 if different else 0)
+    return 1 if different else 0
 
 
-main()
+try:
+    sys.exit(main())
+except (OSError, subprocess.CalledProcessError) as error:
+    print(f"respelled.py: {error}", file=sys.stderr)
+    if isinstance(error, subprocess.CalledProcessError) and error.stderr:
+        sys.stderr.buffer.write(error.stderr)
+    sys.exit(2)

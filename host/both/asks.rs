@@ -5,7 +5,7 @@ use crate::parts::{Answer, Buffers, Form, Record, Refusal, AMPLE, LONGEST};
 use crate::port;
 use crate::rules;
 use oracle::draw::Draw;
-use std::fmt::Debug;
+use std::fmt::{Debug, Display};
 
 /// What a call on the port said that it should not have said.
 pub type Fault = Result<(), String>;
@@ -59,38 +59,46 @@ impl Asks {
         let mut numbers = [7; 7];
         let count = 5 + self.draw.below(3);
         let given = port::read(form as u32, line, &mut self.buffers.lend(lengths), &mut numbers[..count]);
-        same("the answer", &given, &Ok(0))?;
+        same("the reader's answer", &given, &Ok(0))?;
         let [n, b, columns, k, g] = answer.record.map(|number| number as u64);
-        same("the numbers", &numbers, &[n, b, columns, k, g, 7, 7])?;
-        let (held, wanted) = (&self.buffers, &answer.buffers);
-        holds("text", &held.text, &wanted.text)?;
-        holds("types", &held.types, &wanted.types)?;
-        holds("boundaries", &held.boundaries, &wanted.boundaries)?;
-        holds("char positions", &held.char_pos, &wanted.char_pos)?;
-        holds("byte positions", &held.byte_pos, &wanted.byte_pos)?;
-        holds("row ends", &held.row_ends, &wanted.row_ends)?;
-        holds("tag ends", &held.tag_ends, &wanted.tag_ends)?;
-        holds("tag bytes", &held.tag_bytes, &wanted.tag_bytes)?;
+        let names = ["N", "B", "the columns", "K", "G", "a number behind the five", "a number behind the five"];
+        for ((name, given), wanted) in names.iter().zip(numbers).zip([n, b, columns, k, g, 7, 7]) {
+            same(format_args!("the reader's numbers: {name}"), &given, &wanted)?;
+        }
+        self.is_sheet("the reader's", answer)?;
         Ok(lengths)
+    }
+
+    /// The buffers hold a sentence, and nothing is written behind it.
+    fn is_sheet(&self, whose: &str, answer: &Answer) -> Fault {
+        let (held, wanted) = (&self.buffers, &answer.buffers);
+        holds(format_args!("{whose} text"), &held.text, &wanted.text)?;
+        holds(format_args!("{whose} types"), &held.types, &wanted.types)?;
+        holds(format_args!("{whose} boundaries"), &held.boundaries, &wanted.boundaries)?;
+        holds(format_args!("{whose} char positions"), &held.char_pos, &wanted.char_pos)?;
+        holds(format_args!("{whose} byte positions"), &held.byte_pos, &wanted.byte_pos)?;
+        holds(format_args!("{whose} row ends"), &held.row_ends, &wanted.row_ends)?;
+        holds(format_args!("{whose} tag ends"), &held.tag_ends, &wanted.tag_ends)?;
+        holds(format_args!("{whose} tag bytes"), &held.tag_bytes, &wanted.tag_bytes)
     }
 
     /// A line that is refused, whatever the room: nothing is written.
     fn refused(&mut self, form: Form, line: &[u8], refusal: Refusal) -> Fault {
         let lengths = [0; 8].map(|_: usize| self.draw.below(MARGIN));
-        self.refused_with(form as u32, line, lengths, 5, refusal)
+        self.refused_with("the reader's answer to a line that is to be refused", form as u32, line, lengths, 5, refusal)
     }
 
-    fn refused_with(&mut self, form: u32, line: &[u8], lengths: [usize; 8], count: usize, refusal: Refusal) -> Fault {
+    /// A reader that is to refuse; `what` says why.
+    fn refused_with(&mut self, what: &str, form: u32, line: &[u8], lengths: [usize; 8], count: usize, refusal: Refusal) -> Fault {
         let mut numbers = [7; 5];
         let given = port::read(form, line, &mut self.buffers.lend(lengths), &mut numbers[..count]);
-        same("the answer", &given, &Err(refusal))?;
-        same("the numbers of a refused call", &numbers, &[7; 5])?;
-        let front = lengths.map(|length| length + MARGIN);
-        if self.buffers.lend(front).all_are(UNTOUCHED) {
-            return Ok(());
+        let written = self.buffers.lend(lengths.map(|length| length + MARGIN)).other_than(UNTOUCHED);
+        if written.is_some() {
+            self.buffers = Buffers::filled(AMPLE.map(|length| length + 2 * MARGIN), UNTOUCHED);
         }
-        self.buffers = Buffers::filled(AMPLE.map(|length| length + 2 * MARGIN), UNTOUCHED);
-        Err("a refused call has written".into())
+        same(what, &given, &Err(refusal))?;
+        same("the numbers of a refused reader", &numbers, &[7; 5])?;
+        written.map_or(Ok(()), |buffer| Err(format!("the {buffer} of a refused reader: written")))
     }
 
     /// One of the buffers a cell too short: 11.
@@ -101,7 +109,7 @@ impl Asks {
             return Ok(());
         }
         lengths[which] -= 1;
-        self.refused_with(form as u32, line, lengths, 5, Refusal { number: 11, place: 0 })
+        self.refused_with("the reader's answer to short room", form as u32, line, lengths, 5, Refusal { number: 11, place: 0 })
     }
 
     /// Numbers out of range: an unknown form is 16 before all else; too few numbers, or a place past the output, are 14 before the line.
@@ -109,15 +117,18 @@ impl Asks {
         let (unknown, outside) = (Refusal { number: 16, place: 0 }, Refusal { number: 14, place: 0 });
         let lengths = [0; 8].map(|_: usize| self.draw.below(MARGIN));
         let (strange, few) = (3 + self.draw.below(1 << 30) as u32, self.draw.below(5));
-        self.refused_with(strange, line, lengths, few, unknown)?;
-        self.refused_with(form as u32, line, lengths, few, outside)?;
+        self.refused_with("the reader's answer to an unknown form", strange, line, lengths, few, unknown)?;
+        self.refused_with("the reader's answer to few numbers", form as u32, line, lengths, few, outside)?;
         let (room, past) = (self.draw.below(MARGIN), 1 + self.draw.below(9));
         for (reader, writer) in [(strange, 1), (form as u32, 0), (form as u32, strange)] {
-            same("the conversion", &port::convert(reader, writer, line, &mut self.out[..room], room + past), &Err(unknown))?;
+            let given = port::convert(reader, writer, line, &mut self.out[..room], room + past);
+            same("the conversion's answer to an unknown form", &given, &Err(unknown))?;
         }
-        same("the conversion", &port::convert(form as u32, 2, line, &mut self.out[..room], room + past), &Err(outside))?;
-        same("the conversion", &port::convert(form as u32, 1, line, &mut self.out[..LONGEST_OUTPUT + 1], room), &Err(outside))?;
-        self.out_is(&[], "the output of a refused conversion")
+        let given = port::convert(form as u32, 2, line, &mut self.out[..room], room + past);
+        same("the conversion's answer to a place past the output", &given, &Err(outside))?;
+        let given = port::convert(form as u32, 1, line, &mut self.out[..LONGEST_OUTPUT + 1], room);
+        same("the conversion's answer to too long an output", &given, &Err(outside))?;
+        self.out_alone("the output of a refused conversion", room)
     }
 
     /// A line converted to each written form behind some bytes, with room enough and, now and then, with a byte too little.
@@ -135,9 +146,17 @@ impl Asks {
                 Ok(_) => Ok((at + written.len()) as u64),
             };
             let given = port::convert(form as u32, writer as u32, line, &mut self.out[..room], at);
-            same(&format!("the conversion to {}", writer.letter()), &given, &wanted)?;
-            let whole = if lacks { vec![] } else { [&[UNTOUCHED; 5][..at], written].concat() };
-            self.out_is(&whole, "the converted line")?;
+            let alone = match wanted {
+                Err(_) => self.out_alone("the output of a refused conversion", room),
+                Ok(_) => {
+                    let before = alone("what stands before the converted line", &self.out[..at]);
+                    let whole = [&self.out[..at], written].concat();
+                    before.and(self.out_is("the converted line", &whole, room))
+                }
+            };
+            let what = if lacks { "with short room" } else { "with room enough" };
+            same(format_args!("the conversion's answer {what}, to {}", writer.letter()), &given, &wanted)?;
+            alone?;
         }
         Ok(())
     }
@@ -146,14 +165,17 @@ impl Asks {
     fn sheet(&mut self, form: Form, line: &[u8], answer: &Answer, lengths: [usize; 8]) -> Fault {
         for writer in [Form::Tokenized, Form::Partial] {
             self.write(writer, answer, lengths)?;
+            self.is_sheet("after a writer, the", answer)?;
         }
         self.tokens(answer, lengths)?;
+        self.is_sheet("after the steps, the", answer)?;
         match self.draw.below(8) {
             0 => self.steps(form, line, answer, lengths),
             1 => self.unknown_form(answer, lengths),
             2 | 3 => self.changed(answer),
             _ => Ok(()),
-        }
+        }?;
+        self.is_sheet("after all calls, the", answer)
     }
 
     /// The sentence written, with room enough and, now and then, with a byte too little.
@@ -163,8 +185,13 @@ impl Asks {
         let room = if short { written.len() - 1 } else { written.len() + self.draw.below(4) };
         let given = port::write(writer as u32, answer.record, &self.buffers.lend(lengths), &mut self.out[..room]);
         let needed = written.len() as u64;
-        same(&format!("the writer of {}", writer.letter()), &given, &if short { Err(Refusal { number: 12, place: needed }) } else { Ok(needed) })?;
-        self.out_is(if short { &[] } else { written }, "the written line")
+        let (what, wanted, alone) = if short {
+            ("with short room", Err(Refusal { number: 12, place: needed }), self.out_alone("the output of a refused writer", room))
+        } else {
+            ("with room enough", Ok(needed), self.out_is(format_args!("the line written as {}", writer.letter()), written, room))
+        };
+        same(format_args!("the writer's answer {what}, as {}", writer.letter()), &given, &wanted)?;
+        alone
     }
 
     /// All tokens, one after another; a long line's are left to `steps`.
@@ -176,12 +203,14 @@ impl Asks {
         let lent = self.buffers.lend(lengths);
         let mut span = [0, 0, 7];
         for token in answer.tokens.iter().flatten() {
-            same("a step", &port::next_token(answer.record, &lent, span[1] as usize, &mut span), &Ok(1))?;
-            same("a token", &span, &[token[0], token[1], 7])?;
+            same("the step's answer", &port::next_token(answer.record, &lent, span[1] as usize, &mut span), &Ok(1))?;
+            same("a token", &span[..2], token)?;
+            same("the number behind a token", &span[2], &7)?;
         }
-        let last = span;
-        same("the last step", &port::next_token(answer.record, &lent, span[1] as usize, &mut span), &Ok(0))?;
-        same("the last cursor", &span, &[n as u64, last[1], 7])
+        let last = span[1];
+        same("the step's answer at the end", &port::next_token(answer.record, &lent, last as usize, &mut span), &Ok(0))?;
+        same("the cursor at the end", &span[0], &(n as u64))?;
+        same("the numbers behind the cursor at the end", &span[1..], &[last, 7])
     }
 
     /// Steps of the cursor from places of any kind.
@@ -192,8 +221,8 @@ impl Asks {
             let mut span = [7; 2];
             let given = port::next_token(answer.record, &self.buffers.lend(lengths), place, &mut span);
             match original::next_token(&sentence, place) {
-                (Some(token), _) => same("a step and its token", &(given, span), &(Ok(1), token))?,
-                (None, cursor) => same("a step and its cursor", &(given, span), &(Ok(0), [cursor, 7]))?,
+                (Some(token), _) => same("the step from a place of any kind and its token", &(given, span), &(Ok(1), token))?,
+                (None, cursor) => same("the step from a place of any kind and its cursor", &(given, span), &(Ok(0), [cursor, 7]))?,
             }
         }
         Ok(())
@@ -203,10 +232,14 @@ impl Asks {
     fn unknown_form(&mut self, answer: &Answer, lengths: [usize; 8]) -> Fault {
         let form = self.draw.one(&[0, 3, 4, u32::MAX]);
         let lent = self.buffers.lend(lengths);
-        same("an unknown writer", &port::write(form, answer.record, &lent, &mut []), &Err(Refusal { number: 16, place: 0 }))?;
+        let room = self.draw.below(MARGIN);
+        let given = port::write(form, answer.record, &lent, &mut self.out[..room]);
+        same("the writer's answer to an unknown form", &given, &Err(Refusal { number: 16, place: 0 }))?;
         let mut span = [7];
         let given = port::next_token(answer.record, &lent, 0, &mut span);
-        same("a short span", &(given, span), &(Err(Refusal { number: 14, place: 0 }), [7]))
+        same("the step's answer to a short span", &given, &Err(Refusal { number: 14, place: 0 }))?;
+        same("the span of a refused step", &span, &[7])?;
+        self.out_alone("the output of a refused writer", room)
     }
 
     /// One number of the sheet changed: 13 exactly where it is a sentence no more.
@@ -215,14 +248,22 @@ impl Asks {
         let lent = buffers.lend(lengths);
         let broken = Err(Refusal { number: 13, place: 0 });
         let mut span = [7; 2];
-        let written = port::write(1, record, &lent, &mut self.out);
+        let room = self.out.len() - MARGIN;
+        let written = port::write(1, record, &lent, &mut self.out[..room]);
         let stepped = port::next_token(record, &lent, 0, &mut span);
         if rules::is_sheet(record, &lent) {
-            self.out[..written.map_or(0, |length| length as usize)].fill(UNTOUCHED);
-            return same("a changed sheet that is one", &(written == broken, stepped == broken), &(false, false));
+            let length = written.map_or(0, |length| room.min(length as usize));
+            let behind = alone("what stands behind the line written from a changed sheet", &self.out[length..length + MARGIN]);
+            self.out[..length + MARGIN].fill(UNTOUCHED);
+            same("whether a writer refuses a changed sheet that is one", &(written == broken), &false)?;
+            same("whether a step refuses a changed sheet that is one", &(stepped == broken), &false)?;
+            return behind;
         }
-        same("a changed sheet that is none", &(written, stepped, span), &(broken, broken, [7; 2]))?;
-        self.out_is(&[], "the output of a refused writer")
+        let alone = self.out_alone("the output of a refused writer", answer.written(Form::Tokenized).len());
+        same("the writer's answer to a changed sheet", &written, &broken)?;
+        same("the step's answer to a changed sheet", &stepped, &broken)?;
+        same("the span of a refused step", &span, &[7; 2])?;
+        alone
     }
 
     /// A sheet with one number of its record, one of its cells or one of its lengths changed.
@@ -255,12 +296,19 @@ impl Asks {
         }
     }
 
-    /// The output starts with a line, and is left alone behind it; then it is made anew.
-    fn out_is(&mut self, line: &[u8], what: &str) -> Fault {
-        let right = holds(what, &self.out, line);
+    /// The output starts with a line, and is left alone behind it, as far as it was lent and a little further; then it is made anew.
+    fn out_is(&mut self, what: impl Display, line: &[u8], room: usize) -> Fault {
+        let right = same(&what, &self.out[..line.len()], line);
         self.out[..line.len()].fill(UNTOUCHED);
+        right.and(self.out_alone(format_args!("what stands behind {what}"), room))
+    }
+
+    /// The output is left alone, as far as it was lent and a little further; then it is made anew.
+    fn out_alone(&mut self, what: impl Display, room: usize) -> Fault {
+        let front = &mut self.out[..room + MARGIN];
+        let right = alone(what, front);
         if right.is_err() {
-            self.out.fill(UNTOUCHED);
+            front.fill(UNTOUCHED);
         }
         right
     }
@@ -285,13 +333,19 @@ impl Cell for u16 {
 }
 
 /// A buffer starts with a part, and is left alone behind it.
-fn holds<T: Cell>(what: &str, buffer: &[T], part: &[T]) -> Fault {
-    same(what, &&buffer[..part.len()], &part)?;
-    same(&format!("what stands behind {what}"), &&buffer[part.len()..part.len() + MARGIN], &&[T::UNTOUCHED; MARGIN][..])
+fn holds<T: Cell>(what: impl Display, buffer: &[T], part: &[T]) -> Fault {
+    same(&what, &buffer[..part.len()], part)?;
+    alone(format_args!("what stands behind {what}"), &buffer[part.len()..part.len() + MARGIN])
+}
+
+/// Cells are as they were lent.
+fn alone<T: Cell>(what: impl Display, cells: &[T]) -> Fault {
+    let written = cells.iter().position(|&cell| cell != T::UNTOUCHED);
+    written.map_or(Ok(()), |at| Err(format!("{what}: {:?} is written at {at}", cells[at])))
 }
 
 /// What was given is what was wanted.
-fn same<T: PartialEq + Debug>(what: &str, given: &T, wanted: &T) -> Fault {
+fn same<T: PartialEq + Debug + ?Sized>(what: impl Display, given: &T, wanted: &T) -> Fault {
     if given == wanted {
         return Ok(());
     }

@@ -3,9 +3,11 @@
 use crate::original;
 use crate::parts::{Buffers, Form, Record, AMPLE, LONGEST};
 use crate::port::{self, Port};
+use crate::{number, Failure, Outcome};
 use oracle::draw::Draw;
 use std::env::var;
 use std::hint::black_box;
+use std::io::{self, stdout, Write};
 use std::time::Duration;
 use vaporetto::Sentence;
 
@@ -38,30 +40,32 @@ const WORDS: [(&str, &str, &str); 24] = [
 ];
 
 /// Prints the times of both sides; fails where they do not say the same of the lines.
-pub fn command(options: &[&str]) -> Option<bool> {
-    let rounds = match options {
+pub fn command(words: &[&str]) -> Outcome {
+    let rounds = match words {
         [] => 9,
-        ["--rounds", rounds] => rounds.parse().ok().filter(|&rounds| rounds > 0)?,
-        _ => return None,
+        ["--rounds"] => number("--rounds", None)? as usize,
+        ["--rounds", rounds] => number("--rounds", Some(rounds))? as usize,
+        ["--rounds", _, word, ..] | [word, ..] => return Err(Failure::Usage(format!("bench does not know '{word}'"))),
     };
+    let mut out = stdout();
     let emulator = var("EMULATOR").unwrap_or_default();
     let run_by = if emulator.is_empty() { "no emulator ran it".into() } else { format!("an emulator ran it: {emulator}") };
-    println!("Machine: {}; {run_by}.", var("MACHINE").unwrap_or("unknown".into()));
-    println!("Medians of {rounds} rounds, both sides in turn. No buffer is cleared between lines; the one call of the port makes its own anew each time.\n");
-    println!("| lines | form | work | Rust ns/line | port ns/line | Rust ns/byte | port ns/byte | ratio |\n|---|---|---|---|---|---|---|---|");
+    writeln!(out, "Machine: {}; {run_by}.", var("MACHINE").unwrap_or("unknown".into()))?;
+    let heading = "| lines | form | work | Rust ns/line | port ns/line | Rust ns/byte | port ns/byte | ratio |\n|---|---|---|---|---|---|---|---|";
+    writeln!(out, "Medians of {rounds} rounds, both sides in turn. No buffer is cleared between lines; the one call of the port makes its own anew each time.\n\n{heading}")?;
     let (mut draw, mut port) = (Draw::new(1), Port::new());
     let kinds = [("notes", true, 20, 400, 200), ("plain", false, 20, 400, 200), ("4,096 bytes", true, 4096, 4096, 12)];
     for (name, tagged, shortest, longest, count) in kinds {
         for form in [Form::Tokenized, Form::Partial] {
             let lines: Vec<String> = (0..count).map(|_| line(&mut draw, form, tagged, shortest, longest)).collect();
             if !lines.iter().all(|line| port.outcome(form, line.as_bytes()) == original::outcome(form, line).map_err(|told| told.refusal)) {
-                println!("The port does not answer as the original: no times.");
-                return Some(false);
+                writeln!(out, "The port does not answer as the original: no times.")?;
+                return Ok(false);
             }
-            rows(name, form, &lines, rounds);
+            rows(name, form, &lines, rounds)?;
         }
     }
-    Some(true)
+    Ok(true)
 }
 
 /// A line of words, with two tags each or with none, of so many bytes; the last tag is drawn out to the shortest length.
@@ -119,12 +123,13 @@ fn write_original(sentence: &Sentence, form: Form, out: &mut String) {
 }
 
 /// The rows of some lines in a form: read, write, read then write by two calls of the port and by one.
-fn rows(name: &str, form: Form, lines: &[String], rounds: usize) {
+fn rows(name: &str, form: Form, lines: &[String], rounds: usize) -> io::Result<()> {
     let bytes: usize = lines.iter().map(String::len).sum();
     let row = |work: &str, old: &mut dyn FnMut(), new: &mut dyn FnMut()| {
         let (old, new) = medians(rounds, old, new);
         let per = |time: Duration, count: usize| time.as_nanos() as f64 / count as f64;
-        println!(
+        writeln!(
+            stdout(),
             "| {name} | {} | {work} | {:.0} | {:.0} | {:.2} | {:.2} | {:.2} |",
             form.letter(),
             per(old, lines.len()),
@@ -132,7 +137,7 @@ fn rows(name: &str, form: Form, lines: &[String], rounds: usize) {
             per(old, bytes),
             per(new, bytes),
             old.as_secs_f64() / new.as_secs_f64()
-        );
+        )
     };
     let sentences: Vec<Sentence> = lines.iter().map(|line| original::read(form, line).expect("the original reads the line")).collect();
     let mut sheets: Vec<Sheet> = sentences.iter().map(|s| original::answered(s)).map(|answer| (answer.record, answer.buffers)).collect();
@@ -142,12 +147,12 @@ fn rows(name: &str, form: Form, lines: &[String], rounds: usize) {
         lines.iter().for_each(|line| {
             black_box(read(form, black_box(line), &mut buffers));
         })
-    });
+    })?;
     row("write", &mut || sentences.iter().for_each(|s| write_original(black_box(s), form, black_box(&mut string))), &mut || {
         sheets.iter_mut().for_each(|(record, held)| {
             black_box(write(form, *record, held, &mut out));
         })
-    });
+    })?;
     let mut both = || {
         lines.iter().for_each(|line| {
             update(black_box(&mut sentence), form, black_box(line));
@@ -159,13 +164,13 @@ fn rows(name: &str, form: Form, lines: &[String], rounds: usize) {
             let record = read(form, black_box(line), &mut buffers);
             black_box(write(form, record, &mut buffers, &mut out));
         })
-    });
+    })?;
     row("read then write, one call", &mut both, &mut || {
         lines.iter().for_each(|line| {
             let ended = port::convert(form as u32, form as u32, black_box(line.as_bytes()), &mut out[..1 << 20], 0);
             black_box(ended.expect("the port converts the line"));
         })
-    });
+    })
 }
 
 /// The median times of a pass of each side over all lines; a round has as many passes as make it long enough to time.

@@ -4,31 +4,63 @@ use crate::asks::Asks;
 use crate::lines::{self, Asked};
 use crate::original;
 use crate::parts::{visible, Answer, Form, Refusal, FORMS};
-use crate::rules;
+use crate::{number, rules, Failure, Outcome};
 use oracle::draw::Draw;
 use std::collections::BTreeMap;
+use std::io::{self, stdout, Write};
 use std::time::{Duration, Instant};
 
-/// Asks about generated lines; whether no answer differs.
-pub fn command(options: &[&str]) -> Option<bool> {
-    let (long_run, seed) = match options {
-        [] => (false, 1),
-        ["--long"] => (true, 1),
-        ["--long", "--seed", seed] => (true, seed.parse().ok()?),
-        ["--seed", seed] => (false, seed.parse().ok()?),
-        _ => return None,
-    };
-    let mut run = Run::new(seed);
-    let (drawn, near, wide, most) = if long_run { (600_000, 4_000, 20_000, 1_000) } else { (2_500, 20, 60, 200) };
-    lines::recorded().into_iter().chain(lines::short(long_run)).for_each(|asked| run.line(asked));
-    let mut draw = Draw::new(seed);
-    (0..drawn).for_each(|_| run.line(lines::drawn(&mut draw)));
-    (0..near).for_each(|i| run.line(lines::near_limit(&mut draw, FORMS[i % 3])));
-    (0..wide).for_each(|_| run.line(lines::wide(&mut draw, most)));
-    if long_run {
-        run.line(lines::longest());
+/// How many lines are asked about, and which.
+struct Options {
+    long_run: bool,
+    only: Option<u64>,
+    seed: u64,
+}
+
+fn options(words: &[&str]) -> Result<Options, Failure> {
+    let mut options = Options { long_run: false, only: None, seed: 1 };
+    let mut words = words.iter();
+    while let Some(&word) = words.next() {
+        match word {
+            "--long" => options.long_run = true,
+            "--lines" => options.only = Some(number(word, words.next())?),
+            "--seed" => options.seed = number(word, words.next())?,
+            _ => return Err(Failure::Usage(format!("check does not know '{word}'"))),
+        }
     }
-    Some(run.finish())
+    if options.long_run && options.only.is_some() {
+        return Err(Failure::Usage("--long and --lines exclude each other".into()));
+    }
+    Ok(options)
+}
+
+/// Asks about generated lines; whether no answer differs.
+pub fn command(words: &[&str]) -> Outcome {
+    let Options { long_run, only, seed } = options(words)?;
+    let (mut run, mut draw) = (Run::new(seed), Draw::new(seed));
+    let (drawn, near, wide, most) = match only {
+        Some(count) => (count, count.div_ceil(50), count.div_ceil(50), 200),
+        None if long_run => (600_000, 4_000, 20_000, 1_000),
+        None => (2_500, 20, 60, 200),
+    };
+    if only.is_none() {
+        for asked in lines::recorded().into_iter().chain(lines::short(long_run)) {
+            run.line(asked)?;
+        }
+    }
+    for _ in 0..drawn {
+        run.line(lines::drawn(&mut draw))?;
+    }
+    for i in 0..near {
+        run.line(lines::near_limit(&mut draw, FORMS[i as usize % 3]))?;
+    }
+    for _ in 0..wide {
+        run.line(lines::wide(&mut draw, most))?;
+    }
+    if long_run {
+        run.line(lines::longest())?;
+    }
+    Ok(run.finish()?)
 }
 
 /// A run, and what was asked so far.
@@ -48,13 +80,13 @@ impl Run {
     }
 
     /// Asks about a line in every form.
-    fn line(&mut self, (kind, line): Asked) {
+    fn line(&mut self, (kind, line): Asked) -> io::Result<()> {
         *self.lines.entry(kind.into()).or_default() += 1;
         for form in FORMS {
             if let Err(fault) = self.ask(form, &line) {
                 self.differences += 1;
                 if self.differences <= 20 {
-                    println!("{} {}: {fault}", form.letter(), visible(&line));
+                    writeln!(stdout(), "{} {}: {fault}", form.letter(), visible(&line))?;
                 }
             }
         }
@@ -62,6 +94,7 @@ impl Run {
             self.said = Instant::now();
             eprintln!("check: {}", self.so_far());
         }
+        Ok(())
     }
 
     /// Asks about a line in a form.
@@ -78,13 +111,13 @@ impl Run {
     }
 
     /// The last words of a run; whether no answer differed.
-    fn finish(&self) -> bool {
+    fn finish(&self) -> io::Result<bool> {
         for (name, counts) in [("lines", &self.lines), ("answers", &self.answers)] {
             let counts: Vec<String> = counts.iter().map(|(kind, count)| format!("{count} {kind}")).collect();
-            println!("{name}: {}", counts.join(", "));
+            writeln!(stdout(), "{name}: {}", counts.join(", "))?;
         }
-        println!("{}", self.so_far());
-        self.differences == 0
+        writeln!(stdout(), "{}", self.so_far())?;
+        Ok(self.differences == 0)
     }
 }
 

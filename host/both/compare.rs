@@ -3,6 +3,7 @@
 use crate::original;
 use crate::parts::{seen, visible, Form, Refusal};
 use crate::port::Port;
+use crate::{Failure, Outcome};
 use std::collections::BTreeMap;
 use std::fs::File;
 use std::io::{self, stdout, BufRead, BufReader, BufWriter, Write};
@@ -12,19 +13,17 @@ use std::time::{Duration, Instant};
 const CLIP: usize = 160;
 
 /// Compares both sides on each line of files, as a list to read or as TSV; whether all that differs is explained.
-pub fn command(tsv: bool, form: &str, files: &[&str]) -> Option<bool> {
-    let form = Form::named(form)?;
-    if files.is_empty() {
-        return None;
-    }
-    let mut report = Report { tsv, out: BufWriter::new(stdout()), port: Port::new(), said: Instant::now() };
-    match report.files(form, files) {
-        Ok(total) => Some(total.unexplained() == 0),
-        Err(error) => {
-            eprintln!("compare: {error}");
-            None
-        }
-    }
+pub fn command(words: &[&str]) -> Outcome {
+    let (tsv, words) = match words {
+        ["--tsv", words @ ..] => (true, words),
+        words => (false, words),
+    };
+    let (form, files) = match words {
+        [word, ..] if word.starts_with('-') => return Err(Failure::Usage(format!("compare does not know '{word}'"))),
+        [] | [_] => return Err(Failure::Usage("compare takes a form and one or more files".into())),
+        [form, files @ ..] => (Form::named(form).ok_or(Failure::Usage(format!("'{form}' is no form: T, P or R")))?, files),
+    };
+    Report { tsv, out: BufWriter::new(stdout()), port: Port::new(), said: Instant::now() }.files(form, files)
 }
 
 /// Something that the two sides say differently of a line.
@@ -83,41 +82,54 @@ struct Report<W: Write> {
 }
 
 impl<W: Write> Report<W> {
-    fn files(&mut self, form: Form, files: &[&str]) -> io::Result<Summary> {
+    /// Compares the files one after another; those that cannot be read are named at the end.
+    fn files(&mut self, form: Form, files: &[&str]) -> Outcome {
         let mut total = Summary::default();
         if self.tsv {
             writeln!(self.out, "file\tline\titem\tpart\toriginal\tport\ttext")?;
         }
-        let mut told = vec![];
+        let (mut told, mut unread) = (vec![], vec![]);
         for file in files {
-            let summary = self.file(form, file).map_err(|error| io::Error::new(error.kind(), format!("{file}: {error}")))?;
-            told.push(summary.told(file));
+            let mut summary = Summary::default();
+            match File::open(file) {
+                Ok(opened) => self.file(form, file, BufReader::new(opened), &mut summary)?,
+                Err(error) => Some(error),
+            }
+            .map_or_else(|| told.push(summary.told(file)), |error| unread.push(format!("cannot read {}: {error}", seen(file))));
             total.add(&summary);
         }
-        if files.len() > 1 {
+        if told.len() > 1 {
             told.push(total.told("in all"));
         }
         self.out.flush()?;
         told.iter().try_for_each(|line| if self.tsv { writeln!(io::stderr(), "{line}") } else { writeln!(self.out, "{line}") })?;
         self.out.flush()?;
-        Ok(total)
+        if !unread.is_empty() {
+            return Err(Failure::Trouble(unread.join("\nboth: ")));
+        }
+        Ok(total.unexplained() == 0)
     }
 
-    fn file(&mut self, form: Form, file: &str) -> io::Result<Summary> {
-        let mut lines = BufReader::new(File::open(file)?);
-        let mut summary = Summary::default();
+    /// Compares both sides on each line of a file, up to what cannot be read, if there is such.
+    fn file(&mut self, form: Form, file: &str, mut lines: impl BufRead, summary: &mut Summary) -> io::Result<Option<io::Error>> {
         let mut line = vec![];
-        while lines.read_until(b'\n', &mut line)? != 0 {
-            line.pop_if(|last| *last == b'\n');
-            summary.lines += 1;
-            self.line(form, file, &line, &mut summary)?;
+        loop {
             line.clear();
+            match lines.read_until(b'\n', &mut line) {
+                Ok(0) => return Ok(None),
+                Ok(_) => {}
+                Err(error) => return Ok(Some(error)),
+            }
+            if line.last() == Some(&b'\n') {
+                line.pop();
+            }
+            summary.lines += 1;
+            self.line(form, file, &line, summary)?;
             if self.said.elapsed() > Duration::from_secs(5) {
                 self.said = Instant::now();
                 eprintln!("compare: {file}: {} lines", summary.lines);
             }
         }
-        Ok(summary)
     }
 
     /// Compares both sides on a line and prints how they differ.

@@ -122,11 +122,14 @@ impl Lent<'_> {
         [&mut *self.char_pos, &mut *self.byte_pos, &mut *self.row_ends, &mut *self.tag_ends].into_iter().for_each(|cells| cells.fill(cell));
     }
 
-    /// Whether every byte is this one.
-    pub fn all_are(&self, byte: u8) -> bool {
+    /// The name of a buffer that has another byte than this one, if there is such.
+    pub fn other_than(&self, byte: u8) -> Option<&'static str> {
         let cell = u16::from_ne_bytes([byte, byte]);
-        [&*self.text, &*self.types, &*self.boundaries, &*self.tag_bytes].iter().all(|bytes| bytes.iter().all(|&b| b == byte))
-            && [&*self.char_pos, &*self.byte_pos, &*self.row_ends, &*self.tag_ends].iter().all(|cells| cells.iter().all(|&c| c == cell))
+        let bytes = [("text", &*self.text), ("types", &*self.types), ("boundaries", &*self.boundaries), ("tag bytes", &*self.tag_bytes)];
+        let ends =
+            [("char positions", &*self.char_pos), ("byte positions", &*self.byte_pos), ("row ends", &*self.row_ends), ("tag ends", &*self.tag_ends)];
+        let byte = bytes.iter().find(|(_, cells)| cells.iter().any(|&b| b != byte));
+        byte.map(|(name, _)| *name).or_else(|| ends.iter().find(|(_, cells)| cells.iter().any(|&c| c != cell)).map(|(name, _)| *name))
     }
 }
 

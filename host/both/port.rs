@@ -94,14 +94,15 @@ mod exported {
 /// An answer, or the refusal that is 2^63 plus 256 times its place plus its number.
 fn taken(code: u64) -> Result<u64, Refusal> {
     match code.checked_sub(1 << 63) {
-        Some(rest) => Err(spoil::refusal(Refusal { number: rest % 256, place: rest / 256 })),
+        Some(rest) => Err(Refusal { number: rest % 256, place: rest / 256 }),
         None => Ok(code),
     }
 }
 
 /// The line read in one form and written in another behind `at` bytes of the output: where it ends.
 pub fn convert(reader: u32, writer: u32, line: &[u8], out: &mut [u8], at: usize) -> Result<u64, Refusal> {
-    taken(unsafe { exported::ighdelmur_convert(reader, writer, line.as_ptr(), line.len(), out.as_mut_ptr(), out.len(), at) })
+    let converted = taken(unsafe { exported::ighdelmur_convert(reader, writer, line.as_ptr(), line.len(), out.as_mut_ptr(), out.len(), at) });
+    spoil::convert(converted, out, at)
 }
 
 /// The line read into lent buffers: 0, and N, B, columns, K and G in the first five numbers.
@@ -164,7 +165,7 @@ pub fn write(form: u32, [n, b, columns, k, g]: Record, lent: &Lent, out: &mut [u
             out.len(),
         )
     });
-    spoil::write(wrote, form, out)
+    spoil::write(wrote, form, lent, out)
 }
 
 /// A step of the token cursor from `p`: 1 and a token's start and end, or 0 and where the cursor stands.
@@ -197,7 +198,7 @@ pub fn next_token([n, b, columns, k, g]: Record, lent: &Lent, p: usize, span: &m
             span.len(),
         )
     });
-    spoil::next_token(stepped, span)
+    spoil::next_token(stepped, n, p, lent, span)
 }
 
 /// The port with room for every line, for whoever asks line by line.
@@ -217,7 +218,7 @@ impl Port {
         let mut numbers = [0; 5];
         read(form as u32, line, &mut lent, &mut numbers)?;
         let record = numbers.map(|number| number as usize);
-        let mut line = |form| write(form as u32, record, &lent, &mut self.out).map(|length| self.out[..length as usize].to_vec());
+        let mut line = |form| write(form as u32, record, &lent, &mut self.out).map(|length| self.out[..self.out.len().min(length as usize)].to_vec());
         let (tokenized, partial) = (line(Form::Tokenized), line(Form::Partial));
         Ok(Answer { record, buffers: held(record, &lent), tokens: tokens(record, &lent), tokenized, partial })
     }
@@ -255,20 +256,22 @@ fn held([n, b, _, k, g]: Record, lent: &Lent) -> Buffers {
 mod spoil {
     use crate::parts::{Lent, Refusal};
 
-    pub fn refusal(refusal: Refusal) -> Refusal {
-        refusal
+    type Given = Result<u64, Refusal>;
+
+    pub fn convert(given: Given, _: &mut [u8], _: usize) -> Given {
+        given
     }
 
-    pub fn read(read: Result<u64, Refusal>, _: &mut Lent, _: &mut [u64]) -> Result<u64, Refusal> {
-        read
+    pub fn read(given: Given, _: &mut Lent, _: &mut [u64]) -> Given {
+        given
     }
 
-    pub fn write(wrote: Result<u64, Refusal>, _: u32, _: &mut [u8]) -> Result<u64, Refusal> {
-        wrote
+    pub fn write(given: Given, _: u32, _: &Lent, _: &mut [u8]) -> Given {
+        given
     }
 
-    pub fn next_token(stepped: Result<u64, Refusal>, _: &mut [u64]) -> Result<u64, Refusal> {
-        stepped
+    pub fn next_token(given: Given, _: usize, _: usize, _: &Lent, _: &mut [u64]) -> Given {
+        given
     }
 }
 

@@ -2,17 +2,20 @@
 
 use crate::answer::{hex, list, outcome, read, Read};
 use crate::{acts, answer, cases};
+use std::io::{self, stdout, Write};
 use std::path::Path;
 use vaporetto::CharacterType;
 
 /// Writes every list into a folder.
 pub fn write(folder: &Path) -> std::io::Result<()> {
-    std::fs::create_dir_all(folder)?;
+    let named = |path: &Path, error: io::Error| io::Error::new(error.kind(), format!("cannot write {}: {error}", path.display()));
+    std::fs::create_dir_all(folder).map_err(|error| named(folder, error))?;
     for (name, lines) in all() {
-        std::fs::write(folder.join(name), lines.join("\n") + "\n")?;
+        let path = folder.join(name);
+        std::fs::write(&path, lines.join("\n") + "\n").map_err(|error| named(&path, error))?;
         let bytes: usize = lines.iter().map(|line| line.len() + 1).sum();
         let longest = lines.iter().map(String::len).max().unwrap_or(0);
-        println!("{name}: {} answers, {bytes} bytes, longest line {longest}", lines.len());
+        writeln!(stdout(), "{name}: {} answers, {bytes} bytes, longest line {longest}", lines.len())?;
     }
     Ok(())
 }
