@@ -52,6 +52,8 @@ use Rattle.passage.specs.Between.{Outcome, writes, formOf, between, answerOf, o
 use Rattle.passage.specs.Between.{refuses as no-line}
 use Rattle.convert.specs.Convert.{unknownForms, outOfRange, conversion, codeOf}
 use Rattle.exports.specs.Exports.{noReader, readFirst, readCode, readNumbers, hostAnswer, hostLeaves, HostReads, hostWriteOrder, numberCode, HostWrites, spanned, stepCode, stepSpan, HostSteps}
+use Rattle.respelling.proofs.Runs.{finished}
+use Rattle.respelling.proofs.Whole.{only-whole}
 use Rattle.demands.specs.Demand1.{Said, serves, refuses, ofAnswer, ofNumber, ofPart, ofNext, ofConverted, Allowed, exactly, allows, oneOf, Answers, Settled, Blanked, formRefusals, lineRefusals, readRefusals, updateRefusals, askRefusals, fillRefusals, passRefusals, convertRefusals, Stands, Demand1}
 
 -- ---- one of the refusals
@@ -741,6 +743,8 @@ demand-1 = record {
   ighdelmur-read = λ f x d e ns ns′ a w. host-reads f x d ns e ns′ a w;
   ighdelmur-write = λ f r d out out′ a w. host-writes f r d out out′ a w;
   ighdelmur-next-token = λ r d p span span′ a w. host-steps r d p span span′ a w;
+  program-ends = λ room x w a h r g f. finished room h r g f;
+  program-waits = λ room x w a h r f. (_, only-whole room h r f);
   decode = λ s p a e. rw e (stands s p);
   valid-up-to = λ s a e. rw e (valid-within s);
   is-scalar = λ v a e. rw e (scalar-reads v);

@@ -4,7 +4,7 @@ use Prim.Native.Nat.{ℕ, _+_, _≤_, _<_}
 use mathlib.Core.Path.{_≡_}
 use mathlib.Core.Logic.{_↔_, _⊎_}
 use mathlib.Core.Bool.{Bool, true, false, _&&_, _||_}
-use mathlib.Core.List.{List, [], _∷_}
+use mathlib.Core.List.{List, [], _∷_, _++_}
 use lib.Dec.{eqb, ltb}
 use lib.IntN.{ℤ}
 use lib.ListN.{length, getD}
@@ -40,6 +40,8 @@ use Rattle.passage.specs.declared.Converted.the-variants as converted
 use Rattle.passage.specs.Between.{formOf, Converts}
 use Rattle.convert.specs.Convert.{conversion, codeOf}
 use Rattle.exports.specs.Exports.{readCode, HostReads, numberCode, HostWrites, stepCode, HostSteps}
+use Rattle.respelling.specs.Respell.{respell, whole}
+use Rattle.respelling.specs.Run.{State, Run, goes}
 
 -- what an answer says: it serves, or it refuses
 pub data Said : Type 0 where
@@ -206,6 +208,11 @@ pub record Demand1 : Type 0 where
       → (c : Number) × (a ≡ numberCode c) × Settled (exactly 16 0 ∷ fillRefusals (length (lineOf (formOf form) r d))) (ofNumber c) out out′
   pub ighdelmur-next-token : (r : Record) (d : Buffers) (p : ℕ) (span span′ : List ℕ) (a : ℕ) → HostSteps r d p span a span′
       → (c : Next) × (a ≡ stepCode c) × Settled (exactly 13 0 ∷ exactly 14 0 ∷ []) (ofNext c) span span′
+  -- the program: a run that is over without a failed call has written the answers to all that it has read; while the end of the input was not
+  -- seen, what it has written begins the answers to the lines whose LF was read
+  pub program-ends : (room : ℕ) (x w : List ℕ) (a : State) → 8194 ≤ room → Run room x w a → goes a ≡ false → a .failed ≡ false → w ≡ respell x
+  pub program-waits : (room : ℕ) (x w : List ℕ) (a : State) → 8194 ≤ room → Run room x w a → a .ended ≡ false
+      → (rest : List ℕ) × (respell (whole x) ≡ w ++ rest)
   -- UTF-8 and types, which never refuse: what they answer is in its range
   pub decode : (s : List ℕ) (at : ℕ) (a : Decoded) → a ≡ decodeAt s at → Stands s at a
   pub valid-up-to : (s : List ℕ) (a : ℕ) → a ≡ validPrefix s → a ≤ length s
