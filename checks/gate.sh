@@ -181,7 +181,7 @@ without=rustc installs=yes ends 'the host without a compiler' 1 'nothing was run
 ends 'the host without the sources' 1 $'VAPORETTO_SRC to the folder vaporetto/src of a checkout)\n0 passed, 1 failed' VAPORETTO_SRC="$work/none" bash "$here/host/whole.sh"
 
 # The words of the host's scripts, and what they cannot do: status 2, and a line that says so.
-for name in build check-test compare-test example link record whole; do
+for name in build check-test compare-test example interrupted link record whole; do
     ends "$name with an unknown word" 2 "host/$name.sh: there is no '--more'" bash "$here/host/$name.sh" --more
     ends "the help of $name" 0 'Status 0: ' bash "$here/host/$name.sh" --help
 done
