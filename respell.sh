@@ -63,6 +63,14 @@ fi
 tools=$(dirname "$(dirname "$(rt doc)")")/on/$(uname -m)/toolchain
 emulator=$tools/bin/qemu-x86_64
 [ -x "$emulator" ] || emulator=
+# Whether a pipe or a terminal does not wait: opened once more, it does.
+is_hasty() {
+    local flags
+    [ -p "/dev/fd/$1" ] || [ -t "$1" ] || return 1
+    flags=$(sed -n 's/^flags:[[:blank:]]*//p' "/proc/$$/fdinfo/$1") && [ -n "$flags" ] && [ $((8#$flags & 8#4000)) != 0 ]
+} 2>/dev/null
+! is_hasty 0 || { exec </proc/self/fd/0; } 2>/dev/null
+! is_hasty 1 || { exec >/proc/self/fd/1; } 2>/dev/null
 # A reader that stops early is told as a failed write.
 trap '' PIPE
 exec 3>&1

@@ -5,6 +5,7 @@ The lines asked and their answers are document 01's own; the answers to overlong
 import array
 import fcntl
 import os
+import socket
 import subprocess
 import sys
 import tempfile
@@ -70,27 +71,32 @@ def whole(data, words=()):
         return outcome(start(words, stdin=file))
 
 
-def pieces(parts, blocking=True):
-    """The parts one by one, each written when the one before it has been read. The last is followed by the end, or by a call that would block."""
+def pieces(parts, hasty=False):
+    """The parts one by one, each written when the one before it has been read; a hasty end does not wait for the next one."""
     reads, writes = os.pipe()
-    if not blocking:
-        os.set_blocking(reads, False)
-        os.write(writes, parts[0])
+    os.set_blocking(reads, not hasty)
     with tempfile.TemporaryFile() as out, tempfile.TemporaryFile() as err:
         process = start(stdin=reads, stdout=out, stderr=err)
-        if blocking:
-            os.close(reads)
-            for part in parts:
-                os.write(writes, part)
-                drained(writes, process)
-            os.close(writes)
+        os.close(reads)
+        for part in parts:
+            os.write(writes, part)
+            drained(writes, process)
+            if hasty:
+                time.sleep(0.2)
+        os.close(writes)
         process.wait(LIMIT)
-        if not blocking:
-            os.close(reads)
-            os.close(writes)
         out.seek(0)
         err.seek(0)
         return out.read(), err.read(), process.returncode
+
+
+def broken(data):
+    """An input that answers, once the data is read, that it would block."""
+    ours, theirs = socket.socketpair()
+    theirs.setblocking(False)
+    ours.sendall(data)
+    with ours, theirs:
+        return outcome(start(stdin=theirs))
 
 
 def arrivals():
@@ -130,8 +136,9 @@ def inputs_that_fail():
     closed = subprocess.run(["bash", "-c", 'exec bash "$0" <&-', SCRIPT[1]], capture_output=True, timeout=LIMIT)
     expect("a closed input", (closed.stdout, closed.stderr, closed.returncode), (b"", b"respell.sh: standard input is closed\n", 1))
     blocked = b"respell: standard input: Resource temporarily unavailable\n"
-    expect("an input that would block", pieces([b"TPa/x b\nPTa-"], False), (b"=a/x|b/\n", blocked, 1))
-    expect("an overlong line whose end does not come", pieces([b"TPa/x b\nRT" + b"a" * 5000], False), (b"=a/x|b/\n", blocked, 1))
+    expect("an input that would block", broken(b"TPa/x b\nPTa-"), (b"=a/x|b/\n", blocked, 1))
+    expect("an overlong line whose end does not come", broken(b"TPa/x b\nRT" + b"a" * 5000), (b"=a/x|b/\n", blocked, 1))
+    expect("a hasty pipe as input", pieces([ASKED[:3], ASKED[3:20], ASKED[20:]], True), (WANTED, b"", 0))
 
 
 def outputs_that_fail():
@@ -157,11 +164,22 @@ def outputs_that_fail():
         os.set_blocking(writes, False)
         process = start(stdin=file, stdout=writes)
         os.close(writes)
-        err = process.stderr.read()
-        status = process.wait(LIMIT)
+        time.sleep(0.5)
         with os.fdopen(reads, "rb") as pipe:
             out = pipe.read()
-        expect("an output that would block", ((WANTED * 20000).startswith(out), err, status),
+        expect("a hasty pipe as output, and a slow reader", (out == WANTED * 20000, process.stderr.read(), process.wait(LIMIT)), (True, b"", 0))
+        file.seek(0)
+        ours, theirs = socket.socketpair()
+        theirs.setblocking(False)
+        process = start(stdin=file, stdout=theirs)
+        theirs.close()
+        err = process.stderr.read()
+        status = process.wait(LIMIT)
+        out = b""
+        with ours:
+            while part := ours.recv(65536):
+                out += part
+        expect("an output that would block", (out != b"" and (WANTED * 20000).startswith(out), err, status),
                (True, b"respell: standard output: Resource temporarily unavailable\n", 1))
 
 
