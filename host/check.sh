@@ -53,7 +53,6 @@ if check 'the original, unchanged, compiles beside the stand-ins' "$here/build.s
     check "the original's own examples" examples
     check "the oracle's tests" "$out/oracle_tests"
     check 'the recorded lists, made again, show no difference' "$here/record.sh" --check
-    check 'what cases asks and expects, made again, shows no difference' python3 "$here/../crates/cases/expected.py" --check
     shown 'respell accepts and writes as the oracle on generated lines' python3 "$here/respelled.py" "$out/oracle" bash "$here/../respell.sh"
 fi
 if check 'the port and the original link into one program' "$here/link.sh"; then

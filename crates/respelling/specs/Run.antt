@@ -21,10 +21,14 @@ pub record State : Type 0 where
   pub waits : Bool
   pub failed : Bool
 
+-- the bytes held: between two places of the input buffer
+abbrev pub heldIn : Stand → List ℕ → List ℕ
+heldIn s input = drop (s .from) (take (s .to) input)
+
 -- what stands in the buffers between the places of a record
 unfoldable pub stateOf : Stand → List ℕ → List ℕ → State
 stateOf s input out = record {
-  held = drop (s .from) (take (s .to) input);
+  held = heldIn s input;
   due = drop (s .put) (take (s .wrote) out);
   ended = s .last;
   waits = s .waits;
@@ -123,7 +127,7 @@ pub record Answered (s : Stand) (d : Done) (out : List ℕ) (r : Stand) (out′ 
 pub record Kept (s : Stand) (input : List ℕ) (r : Stand) (input′ : List ℕ) : Type 0 where
   pub end : ℕ
   pub answer-is : r ≡ record { from = 0; to = end; put = s .put; wrote = s .wrote; last = s .last; waits = s .waits; failed = s .failed }
-  pub puts : Puts (drop (s .from) (take (s .to) input)) input 0 end input′
+  pub puts : Puts (heldIn s input) input 0 end input′
 
 -- a call that failed, made again where that is asked
 unfoldable pub afterFailure : Stand → Bool → Stand

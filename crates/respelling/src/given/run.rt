@@ -7,7 +7,7 @@ ghost use mathlib.Core.Path.{_≡_};
 ghost use lib.ListN.{length, take, drop};
 ghost use Rattle.respelling.specs.Puts.{Puts};
 ghost use Rattle.respelling.specs.Stream.{turn};
-ghost use Rattle.respelling.specs.Run.{first, heldEnd, Answered, Kept, afterFailure, afterRead, afterWrite, goesOn};
+ghost use Rattle.respelling.specs.Run.{heldIn, first, heldEnd, Answered, Kept, afterFailure, afterRead, afterWrite, goesOn};
 
 // Nothing is read, and nothing written.
 pub fn start() -> Stand
@@ -43,7 +43,7 @@ fn end_of(from: usize, to: usize, used: usize) -> usize
 // Answers what is held, as far as it can be, into an output of which all was written.
 pub fn answer(s: Stand, input: &[u8], out: &mut [u8]) -> Stand
     requires { ⌜ (s .from ≤ s .to) × (s .to ≤ length (now input)) ⌝ }
-    ensures { λ r. ⌜ Answered s (turn (s .last) (length (now (out .entry))) (drop (s .from) (take (s .to) (now (input .entry))))) (now (out .entry)) r (now (out .exit)) ⌝ }
+    ensures { λ r. ⌜ Answered s (turn (s .last) (length (now (out .entry))) (heldIn s (now (input .entry)))) (now (out .entry)) r (now (out .exit)) ⌝ }
 {
     let from = s.from;
     let to = s.to;
