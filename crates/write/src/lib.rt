@@ -132,6 +132,7 @@ pub fn write_partial_annotation_text(
         out.len(),
     );
     if needed > 0 {
+        // Nothing is stored before the room is known: a refusal leaves the output.
         return too_short(needed);
     }
     let n = partial_into(
