@@ -9,7 +9,7 @@ ghost use Prim.Native.Nat.{_+_, _≤_, _<_};
 ghost use mathlib.Core.Path.{_≡_};
 ghost use mathlib.Core.Bool.{true};
 ghost use lib.ListN.{length};
-ghost use Rattle.respelling.specs.Run.{Stands, Behind, ReadSome, WroteSome, goesOn, Went, Ran};
+ghost use Rattle.respelling.specs.Run.{Stands, Behind, ReadSome, WroteSome, goesOn, Went, Ended};
 
 // Says on standard error that the input could not be read, and why.
 fn say_input() {
@@ -101,7 +101,8 @@ fn turn(s: Stand, input: &mut [u8], out: &mut [u8]) -> Stand
 // does. So the loop counts its turns down, from a number that no run uses up.
 fn run(input: &mut [u8], out: &mut [u8]) -> Stand
     requires { ⌜ 4099 < length (now input) ⌝ }
-    ensures { λ r. ⌜ Ran r (now (input .exit)) (now (out .exit)) ⌝ }
+    requires { ⌜ 8194 ≤ length (now out) ⌝ }
+    ensures { λ r. ⌜ Ended r (now (input .exit)) (now (out .exit)) ⌝ }
 {
     let mut s = respelling::given::start();
     let mut turns = u64::MAX;

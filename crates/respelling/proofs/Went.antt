@@ -5,7 +5,7 @@ use native.Mathlib.Nat.{zero-add, add-zero}
 use mathlib.Core.Path.{_≡_, refl, sym, ap, _∙_}
 use mathlib.Core.Bool.{Bool, true, false, not, _&&_, _||_, false≢true}
 use mathlib.Core.List.{List, [], _∷_, _++_, append-nil}
-use borrow.Author.Tests.{le-leb, lt-ltb, le-ltb, ltb-true, ltb-false, eqb-true, eqb-false}
+use borrow.Author.Tests.{le-leb, lt-leb, lt-ltb, le-ltb, ltb-true, ltb-false, eqb-true, eqb-false}
 use lib.Dec.{eqb, leb, ltb}
 use lib.ListN.{length, take, drop, length-append, length-take, length-drop, take-append-drop}
 use lib.Seq.{take-append-seam, take-append-le, take-take, take-all, take-add, drop-drop, length-take-le}
@@ -15,7 +15,10 @@ use Rattle.respelling.specs.declared.Stand.{Stand}
 use Rattle.respelling.specs.declared.Call.{Call}
 use Rattle.respelling.specs.Puts.{Puts}
 use Rattle.respelling.specs.Stream.{Done, turn}
-use Rattle.respelling.specs.Run.{State, stateOf, begins, answers, reads, writes, fails, isDue, calls, goes, Move, by-answer, by-read, by-write, by-nothing, by-failure, Run, start, moves, Stands, first, heldEnd, answeredStand, Answered, Kept, afterFailure, afterRead, afterWrite, Behind, ReadSome, WroteSome, goesOn, Went, Ran}
+use Rattle.respelling.specs.Run.{State, stateOf, begins, answers, reads, writes, fails, isDue, calls, goes, Move, by-answer, by-read, by-write, by-nothing, by-failure, Run, start, moves, Stands, first, heldEnd, answeredStand, Answered, Kept, afterFailure, afterRead, afterWrite, Behind, ReadSome, WroteSome, goesOn, Went, Ran, Ended}
+use Rattle.respelling.specs.Respell.{respell, whole}
+use Rattle.respelling.proofs.Runs.{finished}
+use Rattle.respelling.proofs.Whole.{only-whole}
 use Rattle.respelling.proofs.Turns.{turn-within}
 use Rattle.respelling.proofs.Calls.{between, between-length}
 
@@ -291,3 +294,25 @@ ran-start input out e = rw e (ran-first input out)
 
 pub ran-more : {s r : Stand} {input out input′ out′ : List ℕ} → Ran s input out → Went s input out r input′ out′ → length out′ ≡ length out → Ran r input′ out′
 ran-more p w e = record { got = p .got ++ w .got; gave = p .gave ++ w .gave; run = rw e (moves (p .run) (w .move)); stands = w .stands }
+
+-- ---- the end of a run
+goes-same : (s : Stand) (input out : List ℕ) → Stands s input out → goesOn s ≡ goes (stateOf s input out)
+unfolding goesOn goes stateOf
+goes-same s input out k = on (ltb (s .put) (s .wrote)) refl
+  where
+    on : (b : Bool) → ltb (s .put) (s .wrote) ≡ b → goesOn s ≡ goes (stateOf s input out)
+    on true e =
+        let h : s .put < s .wrote = ltb-true _ _ e in
+        rw (due-some s input out h (k .output-in), lt-leb (s .wrote) (s .put) h) refl
+    on false e =
+        let h : s .wrote ≤ s .put = ltb-false _ _ e in
+        rw (due-none s input out h, le-leb (s .wrote) (s .put) h) refl
+
+pub ran-ends : (s : Stand) (input out : List ℕ) → Ran s input out → 8194 ≤ length out → Ended s input out
+unfolding stateOf
+ran-ends s input out r h = record {
+  ran = r;
+  all = λ g f. finished (length out) h (r .run) (sym (goes-same s input out (r .stands)) ∙ g) f;
+  rest = (stateOf s input out) .due ++ respell (whole ((stateOf s input out) .held));
+  only = λ f. only-whole (length out) h (r .run) f;
+}

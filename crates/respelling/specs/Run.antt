@@ -8,6 +8,7 @@ use lib.ListN.{length, take, drop}
 use Rattle.laws.specs.If.{if_then_else_}
 use Rattle.laws.specs.Put.{over}
 use Rattle.respelling.specs.Puts.{Puts}
+use Rattle.respelling.specs.Respell.{respell, whole}
 use Rattle.respelling.specs.Stream.{Done, turn}
 use Rattle.respelling.specs.declared.Stand.{Stand}
 use Rattle.respelling.specs.declared.Call.{Call}
@@ -185,3 +186,11 @@ pub record Ran (s : Stand) (input out : List ℕ) : Type 0 where
   pub gave : List ℕ
   pub run : Run (length out) got gave (stateOf s input out)
   pub stands : Stands s input out
+
+-- the end of a run: where it is over and no call has failed, it has written the answers to all that it has read; where the end of the input was not seen,
+-- what it has written begins the answers to the lines whose LF was read
+pub record Ended (s : Stand) (input out : List ℕ) : Type 0 where
+  pub ran : Ran s input out
+  pub all : goesOn s ≡ false → s .failed ≡ false → ran .gave ≡ respell (ran .got)
+  pub rest : List ℕ
+  pub only : s .last ≡ false → respell (whole (ran .got)) ≡ ran .gave ++ rest
