@@ -21,33 +21,25 @@ fn say_output() {
     os::fail(b"respell: standard output");
 }
 
-// Reads once into a buffer behind a place. A call that a signal interrupted is to be made again.
+// Reads once into a buffer behind a place.
 fn read_behind(input: &mut [u8], to: usize) -> Call
     requires { ⌜ to ≤ length (now input) ⌝ }
     ensures { λ c. ⌜ Behind to (now (input .entry)) (c .moved) (now (input .exit)) ⌝ }
 {
     let got = libc::read(STDIN_FILENO, &mut input[to..]);
-    let again = os::errno() == EINTR;
+    let interrupted = os::errno() == EINTR;
     let moved = io::count(got, &input[to..]);
-    Call {
-        moved,
-        failed: got < 0,
-        again,
-    }
+    respelling::given::read_told(got, moved, interrupted)
 }
 
-// Writes once some of the bytes given. A call that a signal interrupted is to be made again; one that takes nothing has failed.
+// Writes once some of the bytes given.
 fn write_from(bytes: &[u8]) -> Call
     ensures { λ c. ⌜ c .moved ≤ length (now (bytes .entry)) ⌝ }
 {
     let got = libc::write(STDOUT_FILENO, bytes);
-    let again = (got < 0) & (os::errno() == EINTR);
+    let interrupted = os::errno() == EINTR;
     let moved = io::count(got, bytes);
-    Call {
-        moved,
-        failed: got <= 0,
-        again,
-    }
+    respelling::given::write_told(got, moved, interrupted)
 }
 
 // Reads once behind what is held, which is moved to the front of the buffer first.

@@ -7,6 +7,7 @@ use mathlib.Core.Bool.{Bool, true, false, not, _&&_, _||_, false≢true}
 use mathlib.Core.List.{List, [], _∷_, _++_, append-nil}
 use borrow.Author.Tests.{le-leb, lt-leb, lt-ltb, le-ltb, ltb-true, ltb-false, eqb-true, eqb-false}
 use lib.Dec.{eqb, leb, ltb}
+use lib.IntN.{ℤ}
 use lib.ListN.{length, take, drop, length-append, length-take, length-drop, take-append-drop}
 use lib.Seq.{take-append-seam, take-append-le, take-take, take-all, take-add, drop-drop, length-take-le}
 use Rattle.laws.specs.If.{if_then_else_, if-true, if-false, if-cases}
@@ -15,7 +16,7 @@ use Rattle.respelling.specs.declared.Stand.{Stand}
 use Rattle.respelling.specs.declared.Call.{Call}
 use Rattle.respelling.specs.Puts.{Puts}
 use Rattle.respelling.specs.Stream.{Done, turn}
-use Rattle.respelling.specs.Run.{State, stateOf, begins, answers, reads, writes, fails, isDue, calls, goes, Move, by-answer, by-read, by-write, by-nothing, by-failure, Run, start, moves, Stands, first, heldEnd, answeredStand, Answered, Kept, afterFailure, afterRead, afterWrite, Behind, ReadSome, WroteSome, goesOn, Went, Ran, Ended}
+use Rattle.respelling.specs.Run.{State, stateOf, begins, answers, reads, writes, fails, isDue, calls, goes, Move, by-answer, by-read, by-write, by-nothing, by-failure, Run, start, moves, Stands, first, heldEnd, answeredStand, Answered, Kept, readTold, writeTold, afterFailure, afterRead, afterWrite, Behind, ReadSome, WroteSome, goesOn, Went, Ran, Ended}
 use Rattle.respelling.specs.Respell.{respell, whole}
 use Rattle.respelling.proofs.Runs.{finished}
 use Rattle.respelling.proofs.Whole.{only-whole}
@@ -164,6 +165,15 @@ module _ (at : ℕ) (d e : List ℕ) where
         front = ap (λ m. take m after-call) (sym z) ∙ take-append-seam (take at d) _;
         within = omega (arith, a, length-take (length after-call - at) (drop at after-call), length-drop at after-call);
       }
+
+  pub behind-told : (got : ℤ) (n : ℕ) (b : Bool) {c : Call} → c ≡ readTold got n b → at ≤ length d → length e ≡ length (take (length d - at) (drop at d))
+      → n ≤ length (take (length after-call - at) (drop at after-call)) → Behind at d (c .moved) after-call
+  unfolding readTold
+  behind-told got n b q h l k = rw q (behind h l k)
+
+pub write-told : (got : ℤ) (n : ℕ) (b : Bool) {c : Call} {m : ℕ} → c ≡ writeTold got n b → n ≤ m → c .moved ≤ m
+unfolding writeTold
+write-told got n b q h = rw q h
 
 -- what is kept is moved to the front, and there is room behind it
 pub kept-room : (s : Stand) (input : List ℕ) {m : Stand} {mid : List ℕ} → Kept s input m mid → s .to ≤ s .from + 4099 → s .to ≤ length input

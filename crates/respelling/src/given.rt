@@ -9,4 +9,6 @@ pub use run::after_write;
 pub use run::answer;
 pub use run::goes;
 pub use run::keep;
+pub use run::read_told;
 pub use run::start;
+pub use run::write_told;

@@ -1,5 +1,5 @@
 -- `respell::read_behind` meets its contract. Assumes nothing.
-use Rattle.respelling.proofs.Went.{behind}
+use Rattle.respelling.proofs.Went.{behind-told}
 use borrow.Author.Needs.{needs}
 use Rattle.respell.proofs.read_behind.Statement.{statement}
 use Rattle.respell.proofs.read_behind.Tie as tie
@@ -31,11 +31,14 @@ part-count-end c = search needs
 count-requires : tie.Need-count-requires
 count-requires c κs = search needs
 
+read-told-requires : tie.Need-read-told-requires
+read-told-requires c κs = search needs
+
 same-length : tie.Need-same-length
 same-length c = search needs
 
 returns : tie.Need-returns
-returns c = search (behind, needs)
+returns c = search (behind-told, needs)
 
 pub read-behind-spec : {M : Type 1} → statement M
 read-behind-spec =
@@ -50,5 +53,6 @@ read-behind-spec =
     part-count-start
     part-count-end
     count-requires
+    read-told-requires
     same-length
     returns)

@@ -7,7 +7,7 @@ ghost use mathlib.Core.Path.{_≡_};
 ghost use lib.ListN.{length, take, drop};
 ghost use Rattle.respelling.specs.Puts.{Puts};
 ghost use Rattle.respelling.specs.Stream.{turn};
-ghost use Rattle.respelling.specs.Run.{heldIn, first, heldEnd, Answered, Kept, afterFailure, afterRead, afterWrite, goesOn};
+ghost use Rattle.respelling.specs.Run.{heldIn, first, heldEnd, Answered, Kept, readTold, writeTold, afterFailure, afterRead, afterWrite, goesOn};
 
 // Nothing is read, and nothing written.
 pub fn start() -> Stand
@@ -90,6 +90,28 @@ pub fn keep(s: Stand, input: &mut [u8]) -> Stand
         last: s.last,
         waits: s.waits,
         failed: s.failed,
+    }
+}
+
+// What a read says by its answer, of which so many bytes count, and by whether a signal interrupted it.
+pub fn read_told(got: isize, moved: usize, interrupted: bool) -> Call
+    ensures { λ c. ⌜ c ≡ readTold got moved interrupted ⌝ }
+{
+    Call {
+        moved,
+        failed: got < 0,
+        again: interrupted,
+    }
+}
+
+// What a write says so; one that takes nothing has failed.
+pub fn write_told(got: isize, moved: usize, interrupted: bool) -> Call
+    ensures { λ c. ⌜ c ≡ writeTold got moved interrupted ⌝ }
+{
+    Call {
+        moved,
+        failed: got <= 0,
+        again: (got < 0) & interrupted,
     }
 }
 
