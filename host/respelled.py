@@ -118,7 +118,7 @@ def main():
                 different += 1
                 if different <= 20:
                     print(f"{f}{w} {l[:200]!r}: wanted {want[:200]!r}, got {got[:200]!r}")
-    print(f"{compared} lines compared, {different} differ")
+    print(f"{compared} answers compared, {different} differ")
     return 1 if different else 0
 
 
