@@ -1,6 +1,5 @@
 // Reads lines from standard input, each two form letters and a sentence line, and prints each line in the other form, or its refusal. A call of the
 // system that fails is told on standard error, and ends the run.
-use libc::EINTR;
 use libc::STDIN_FILENO;
 use libc::STDOUT_FILENO;
 use respelling::Call;
@@ -27,9 +26,9 @@ fn read_behind(input: &mut [u8], to: usize) -> Call
     ensures { λ c. ⌜ Behind to (now (input .entry)) (c .moved) (now (input .exit)) ⌝ }
 {
     let got = libc::read(STDIN_FILENO, &mut input[to..]);
-    let interrupted = os::errno() == EINTR;
+    let error = os::errno();
     let moved = io::count(got, &input[to..]);
-    respelling::given::read_told(got, moved, interrupted)
+    respelling::given::read_told(got, moved, error)
 }
 
 // Writes once some of the bytes given.
@@ -37,9 +36,9 @@ fn write_from(bytes: &[u8]) -> Call
     ensures { λ c. ⌜ c .moved ≤ length (now (bytes .entry)) ⌝ }
 {
     let got = libc::write(STDOUT_FILENO, bytes);
-    let interrupted = os::errno() == EINTR;
+    let error = os::errno();
     let moved = io::count(got, bytes);
-    respelling::given::write_told(got, moved, interrupted)
+    respelling::given::write_told(got, moved, error)
 }
 
 // Reads once behind what is held, which is moved to the front of the buffer first.

@@ -1,5 +1,5 @@
 -- What a call of the system makes of what stands, by the tests that the code makes. Assumes nothing.
-use Prim.Native.Nat.{ℕ, zero, suc, _+_, _-_, _≤_, _<_}
+use Prim.Native.Nat.{ℕ, zero, suc, _+_, _-_, _^_, _≤_, _<_}
 use native.Mathlib.Omega.{arith}
 use native.Mathlib.Nat.{sub-zero, zero-sub}
 use mathlib.Core.Path.{_≡_, refl, sym, ap, _∙_}
@@ -7,6 +7,9 @@ use mathlib.Core.Bool.{Bool, true, false, _&&_, _||_}
 use mathlib.Core.List.{List, [], _∷_}
 use borrow.Author.Tests.{lt-ltb, le-ltb, eq-eqb, ne-eqb}
 use lib.Dec.{eqb, ltb}
+use lib.IntN.{ℤ, pos, negsuc}
+use mir.Syntax.{w32}
+use mir.Val.{SFits, ofZ}
 use lib.ListN.{length, take, drop, length-take, length-drop}
 use native.Mathlib.Numerals.{unary-clauses}
 use lib.Seq.{take-nil, drop-nil, length-take-le}
@@ -16,7 +19,7 @@ use Rattle.respelling.specs.declared.Stand.{Stand}
 use Rattle.respelling.specs.declared.Call.{Call}
 use Rattle.respelling.specs.Stream.{turn, Turned}
 use Rattle.respelling.proofs.Turns.{used-within}
-use Rattle.respelling.specs.Run.{heldEnd, answeredStand, Answered, afterFailure, afterRead, afterWrite}
+use Rattle.respelling.specs.Run.{heldEnd, answeredStand, Answered, interrupted, afterFailure, afterRead, afterWrite}
 
 -- the record with the places and flags told
 abbrev stand : ℕ → ℕ → ℕ → ℕ → Bool → Bool → Bool → Stand
@@ -85,3 +88,9 @@ module _ (from to used : ℕ) where
   pub end-kept : used ≤ 0 → to - from ≤ 4099 → to ≡ heldEnd from to used
   unfolding heldEnd
   end-kept h l = sym (if-true _ _ _ (eq-eqb used 0 (omega arith)) ∙ if-false _ _ _ (le-ltb _ _ l))
+
+-- ---- the number of an error, as the code compares it
+pub of-error : (z : ℤ) → SFits w32 z → eqb (ofZ w32 z) 4 ≡ interrupted z
+unfolding interrupted
+of-error (pos n) f = refl
+of-error (negsuc n) f = ne-eqb (2 ^ 32 - suc n) 4 (λ e. omega (arith, f .sfits))

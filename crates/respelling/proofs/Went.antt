@@ -166,12 +166,12 @@ module _ (at : ℕ) (d e : List ℕ) where
         within = omega (arith, a, length-take (length after-call - at) (drop at after-call), length-drop at after-call);
       }
 
-  pub behind-told : (got : ℤ) (n : ℕ) (b : Bool) {c : Call} → c ≡ readTold got n b → at ≤ length d → length e ≡ length (take (length d - at) (drop at d))
+  pub behind-told : (got : ℤ) (n : ℕ) (b : ℤ) {c : Call} → c ≡ readTold got n b → at ≤ length d → length e ≡ length (take (length d - at) (drop at d))
       → n ≤ length (take (length after-call - at) (drop at after-call)) → Behind at d (c .moved) after-call
   unfolding readTold
   behind-told got n b q h l k = rw q (behind h l k)
 
-pub write-told : (got : ℤ) (n : ℕ) (b : Bool) {c : Call} {m : ℕ} → c ≡ writeTold got n b → n ≤ m → c .moved ≤ m
+pub write-told : (got : ℤ) (n : ℕ) (b : ℤ) {c : Call} {m : ℕ} → c ≡ writeTold got n b → n ≤ m → c .moved ≤ m
 unfolding writeTold
 write-told got n b q h = rw q h
 

@@ -4,7 +4,7 @@ use mathlib.Core.Path.{_≡_}
 use mathlib.Core.Bool.{Bool, true, false, not, _&&_, _||_}
 use mathlib.Core.List.{List, [], _∷_, _++_}
 use lib.Dec.{eqb, leb, ltb}
-use lib.IntN.{ℤ, pos}
+use lib.IntN.{ℤ, pos, negsuc}
 use lib.ListN.{length, take, drop}
 use lib.Signed.{ltZ, leZ}
 use Rattle.laws.specs.If.{if_then_else_}
@@ -132,12 +132,17 @@ pub record Kept (s : Stand) (input : List ℕ) (r : Stand) (input′ : List ℕ)
   pub answer-is : r ≡ record { from = 0; to = end; put = s .put; wrote = s .wrote; last = s .last; waits = s .waits; failed = s .failed }
   pub puts : Puts (heldIn s input) input 0 end input′
 
--- what a read and a write say by their answer, and by whether a signal interrupted them; a write that takes nothing has failed
-unfoldable pub readTold : ℤ → ℕ → Bool → Call
-readTold got moved interrupted = record { moved = moved; failed = ltZ got (pos 0); again = interrupted }
+-- the number of the error of a call that a signal interrupted
+unfoldable pub interrupted : ℤ → Bool
+interrupted (pos n) = eqb n 4
+interrupted (negsuc n) = false
 
-unfoldable pub writeTold : ℤ → ℕ → Bool → Call
-writeTold got moved interrupted = record { moved = moved; failed = leZ got (pos 0); again = ltZ got (pos 0) && interrupted }
+-- what a read and a write say by their answer and the number of their error; a write that takes nothing has failed
+unfoldable pub readTold : ℤ → ℕ → ℤ → Call
+readTold got moved error = record { moved = moved; failed = ltZ got (pos 0); again = interrupted error }
+
+unfoldable pub writeTold : ℤ → ℕ → ℤ → Call
+writeTold got moved error = record { moved = moved; failed = leZ got (pos 0); again = ltZ got (pos 0) && interrupted error }
 
 -- a call that failed, made again where that is asked
 unfoldable pub afterFailure : Stand → Bool → Stand

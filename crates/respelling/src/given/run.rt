@@ -93,25 +93,28 @@ pub fn keep(s: Stand, input: &mut [u8]) -> Stand
     }
 }
 
-// What a read says by its answer, of which so many bytes count, and by whether a signal interrupted it.
-pub fn read_told(got: isize, moved: usize, interrupted: bool) -> Call
-    ensures { λ c. ⌜ c ≡ readTold got moved interrupted ⌝ }
+// The number of the error of a call that a signal interrupted: EINTR.
+const INTERRUPTED: i32 = 4;
+
+// What a read says by its answer, of which so many bytes count, and by the number of its error.
+pub fn read_told(got: isize, moved: usize, error: i32) -> Call
+    ensures { λ c. ⌜ c ≡ readTold got moved error ⌝ }
 {
     Call {
         moved,
         failed: got < 0,
-        again: interrupted,
+        again: error == INTERRUPTED,
     }
 }
 
 // What a write says so; one that takes nothing has failed.
-pub fn write_told(got: isize, moved: usize, interrupted: bool) -> Call
-    ensures { λ c. ⌜ c ≡ writeTold got moved interrupted ⌝ }
+pub fn write_told(got: isize, moved: usize, error: i32) -> Call
+    ensures { λ c. ⌜ c ≡ writeTold got moved error ⌝ }
 {
     Call {
         moved,
         failed: got <= 0,
-        again: (got < 0) & interrupted,
+        again: (got < 0) & (error == INTERRUPTED),
     }
 }
 
