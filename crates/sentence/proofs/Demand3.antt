@@ -105,7 +105,7 @@ fits-read raw s an w = absurd an
 fits-read tokenized s an w = w
 fits-read partial s an w = tt
 
-same-read : (f : Form) (s t : Sentence) → Formed s → Formed t → Fits f (s .cells) → Fits f (t .cells) → written f s ≡ written f t → s ≡ t
+pub same-read : (f : Form) (s t : Sentence) → Formed s → Formed t → Fits f (s .cells) → Fits f (t .cells) → written f s ≡ written f t → s ≡ t
 same-read f s t h k v w e =
     let x : line f s ≡ line f t =
     sym (scalars-encodes (line f s) (line-scalars f s (h .cells-are) v)) ∙ ap scalars e ∙ scalars-encodes (line f t) (line-scalars f t (k .cells-are) w) in

@@ -3,3 +3,4 @@ pub mod Trips
 pub mod Shape
 pub mod Demand3
 pub mod Tokens
+pub mod Withheld

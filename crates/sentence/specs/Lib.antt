@@ -3,3 +3,4 @@ pub mod Reading
 pub mod Writing
 pub mod Refusals
 pub mod Worked
+pub mod Withheld

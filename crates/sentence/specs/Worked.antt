@@ -10,6 +10,7 @@ use Rattle.types.specs.TypeOf.{find, ranges, typeOf}
 use Rattle.sentence.specs.Sentence.{Tag, Mark, none, word, unknown, code, Cells, final, cell, Sentence, textOf, marksOf, rowsOf, text, marks, rows, count, types, starts, numbers, charPositions, bytePositions, onto, cut, pad}
 use Rattle.sentence.specs.Reading.{Form, raw, tokenized, partial, kind, ordinary, inside, opening, step, advance, unfinished, ending, finish, push, follow, run, before, add, gather, Result, sentence, refused, built, placed, read}
 use Rattle.sentence.specs.Writing.{Token, token, tokens, tokensFrom, Served, serves, done, first, nextToken, surface, escapeAs, escape, writeTags, writeToken, joined, sign, shown, writePartial, line, written, key, bare, marked, resetTags, setMark, setBoundary, decision, scored, blank}
+use Rattle.sentence.specs.Withheld.{inRange, touches, hidden, widest, trimmed, withheld}
 
 -- what can be asked of a line that is read
 pub data Ask : Type 0 where
@@ -18,6 +19,7 @@ pub data Ask : Type 0 where
   the-token-at : ℕ → Ask
   the-line-reset : ℕ → Ask
   the-line-scored : List ℤ → Ask
+  the-withheld : ℕ → ℕ → Ask
 
 -- the start and the end of each token
 unfoldable pub spans : List Token → List ℕ
@@ -51,6 +53,7 @@ told (the-line f) s = written f s
 told (the-token-at p) s = servedAs (nextToken (marks s) (count s) p)
 told (the-line-reset c) s = written partial (resetTags c s)
 told (the-line-scored zs) s = written partial (scored zs s)
+told (the-withheld b e) s = written partial (withheld b e s)
 
 -- a refused line answers its number and place
 unfoldable pub answer : Ask → Result → List ℕ
@@ -147,6 +150,21 @@ worked =
     ∷ case partial (97 ∷ 47 ∷ 120 ∷ 32 ∷ 98 ∷ 124 ∷ 99 ∷ []) (the-line-reset 2) (97 ∷ 32 ∷ 98 ∷ 47 ∷ 47 ∷ 124 ∷ 99 ∷ 47 ∷ 47 ∷ [])
     ∷ case partial (97 ∷ 47 ∷ 120 ∷ 32 ∷ 98 ∷ 124 ∷ 99 ∷ []) (the-line-scored (pos 0 ∷ pos 1 ∷ [])) (97 ∷ 45 ∷ 98 ∷ 124 ∷ 99 ∷ [])
     ∷ case partial (97 ∷ 47 ∷ 120 ∷ 32 ∷ 98 ∷ 124 ∷ 99 ∷ []) (the-line-scored (negsuc 0 ∷ pos 7 ∷ [])) (97 ∷ 45 ∷ 98 ∷ 124 ∷ 99 ∷ [])
+    -- withheld: an empty range hides nothing; P `a|b` from 1 to 1, and 2 to 2
+    ∷ case partial (97 ∷ 124 ∷ 98 ∷ []) (the-withheld 1 1) (97 ∷ 124 ∷ 98 ∷ [])
+    ∷ case partial (97 ∷ 124 ∷ 98 ∷ []) (the-withheld 2 2) (97 ∷ 124 ∷ 98 ∷ [])
+    -- P `a|b|c|d` from 1 to 2: the boundaries on both sides
+    ∷ case partial (97 ∷ 124 ∷ 98 ∷ 124 ∷ 99 ∷ 124 ∷ 100 ∷ []) (the-withheld 1 2) (97 ∷ 32 ∷ 98 ∷ 32 ∷ 99 ∷ 124 ∷ 100 ∷ [])
+    -- P `a/|b//x|c/` from 1 to 2: the columns are those in use outside
+    ∷ case partial (97 ∷ 47 ∷ 124 ∷ 98 ∷ 47 ∷ 47 ∷ 120 ∷ 124 ∷ 99 ∷ 47 ∷ []) (the-withheld 1 2) (97 ∷ 32 ∷ 98 ∷ 32 ∷ 99 ∷ [])
+    -- P `a-b/x|c` from 0 to 1: a tag outside stays; P `a/x|b` from 1 to 2: the last character has all columns
+    ∷ case partial (97 ∷ 45 ∷ 98 ∷ 47 ∷ 120 ∷ 124 ∷ 99 ∷ []) (the-withheld 0 1) (97 ∷ 32 ∷ 98 ∷ 47 ∷ 120 ∷ 124 ∷ 99 ∷ 47 ∷ [])
+    ∷ case partial (97 ∷ 47 ∷ 120 ∷ 124 ∷ 98 ∷ []) (the-withheld 1 2) (97 ∷ 47 ∷ 120 ∷ 32 ∷ 98 ∷ 47 ∷ [])
+    -- P `a/x|b/y-c//z` from 1 to 2, 0 to 3, 2 to 3, 0 to 0
+    ∷ case partial (97 ∷ 47 ∷ 120 ∷ 124 ∷ 98 ∷ 47 ∷ 121 ∷ 45 ∷ 99 ∷ 47 ∷ 47 ∷ 122 ∷ []) (the-withheld 1 2) (97 ∷ 47 ∷ 120 ∷ 32 ∷ 98 ∷ 32 ∷ 99 ∷ 47 ∷ 47 ∷ 122 ∷ [])
+    ∷ case partial (97 ∷ 47 ∷ 120 ∷ 124 ∷ 98 ∷ 47 ∷ 121 ∷ 45 ∷ 99 ∷ 47 ∷ 47 ∷ 122 ∷ []) (the-withheld 0 3) (97 ∷ 32 ∷ 98 ∷ 32 ∷ 99 ∷ [])
+    ∷ case partial (97 ∷ 47 ∷ 120 ∷ 124 ∷ 98 ∷ 47 ∷ 121 ∷ 45 ∷ 99 ∷ 47 ∷ 47 ∷ 122 ∷ []) (the-withheld 2 3) (97 ∷ 47 ∷ 120 ∷ 124 ∷ 98 ∷ 47 ∷ 121 ∷ 32 ∷ 99 ∷ 47 ∷ [])
+    ∷ case partial (97 ∷ 47 ∷ 120 ∷ 124 ∷ 98 ∷ 47 ∷ 121 ∷ 45 ∷ 99 ∷ 47 ∷ 47 ∷ 122 ∷ []) (the-withheld 0 0) (97 ∷ 47 ∷ 120 ∷ 47 ∷ 124 ∷ 98 ∷ 47 ∷ 121 ∷ 45 ∷ 99 ∷ 47 ∷ 47 ∷ 122 ∷ [])
     ∷ []
 
 pub given : Case → List ℕ
@@ -154,5 +172,5 @@ given c = answer (c .ask) (read (c .form) (c .bytes))
 
 -- every worked line has its answer
 pub worked-lines : map given worked ≡ map (λ (c : Case). c .wanted) worked
-unfolding worked given told answer spans servedAs tagsAs if_then_else_ utf8-2 utf8-3 utf8-4 charOf walk wholes values width encode encodes size find ranges typeOf code textOf marksOf rowsOf starts numbers onto cut pad kind ordinary inside opening step advance unfinished ending finish push follow run before add gather built placed read tokens first nextToken escapeAs escape writeTags writeToken joined sign shown writePartial line bare marked resetTags setMark setBoundary decision scored blank
+unfolding worked given told answer spans servedAs tagsAs if_then_else_ utf8-2 utf8-3 utf8-4 charOf walk wholes values width encode encodes size find ranges typeOf code textOf marksOf rowsOf starts numbers onto cut pad kind ordinary inside opening step advance unfinished ending finish push follow run before add gather built placed read tokens first nextToken escapeAs escape writeTags writeToken joined sign shown writePartial line bare marked resetTags setMark setBoundary decision scored blank inRange touches hidden widest trimmed withheld
 worked-lines = refl
