@@ -1,156 +1,186 @@
--- How long the partial line of a sheet is: its text, its signs, its slashes, and the bytes of its tags, escaped. Assumes nothing.
+-- How long the partial line of a sheet is, with a range hidden: a bound, the length of each part, and a loop that counts slashes. Assumes nothing.
 use Prim.Native.Nat.{ℕ, zero, suc, _+_, _-_, _*_, _≤_, _<_}
-use mathlib.Core.Path.{_≡_, refl, sym, ap, _∙_}
-use mathlib.Core.List.{List, [], _∷_, append-nil}
-use native.Mathlib.Nat.{mul-le-mul}
+use mathlib.Core.Path.{_≡_, refl}
+use mathlib.Core.Bool.{Bool, true, false}
+use mathlib.Core.List.{List, [], _∷_}
+use native.Mathlib.Nat.{add-zero}
 use native.Mathlib.Omega.{arith}
-use lib.ListN.{length, take, drop, getD, length-append, length-take}
-use Rattle.laws.specs.If.{if_then_else_}
-use Rattle.laws.specs.All.{All}
+use borrow.Author.Tests.{ltb-true, ltb-false}
+use lib.Dec.{eqb, ltb}
+use lib.ListN.{length, take, drop, getD, length-append}
+use lib.Seq.{slice-empty}
+use Rattle.laws.specs.If.{if_then_else_, if-true, if-false}
 use Rattle.utf8.specs.Utf8.{width, encodes, size}
 use Rattle.utf8.proofs.Codec.{length-encode, encodes-append}
-use Rattle.sentence.specs.Sentence.{Tag, Mark, none, word, unknown, Cells, final, cell, textOf, marksOf, rowsOf, text, marks, rows, Row, CellsOf}
+use Rattle.sentence.specs.Sentence.{Tag, Mark, none, word, unknown, Cells, final, cell, textOf, rowsOf, text, rows, rowBytes, tagBytes, Row, CellsOf}
 use Rattle.sentence.specs.Reading.{partial}
 use Rattle.sentence.specs.Writing.{escape, writeTags, sign, shown, writePartial, line, written}
+use Rattle.sentence.specs.Withheld.{hidden}
 use Rattle.sentence.proofs.Trips.{escape-append}
+use Rattle.sentence.proofs.Withheld.{text-hidden, bytes-hidden, cells-hidden}
 use Rattle.sheet.specs.declared.Record.{Record}
-use Rattle.sheet.specs.Layout.{Buffers, tagsOf, bytesOf, markOf, spell, Sheet}
-use Rattle.sheet.proofs.Held.{rows-held, columns-held, tag-bytes-held}
-use Rattle.sheet.proofs.Look.{left, Bounds, bounds, bytes-joined, mark-word, marks-step, marks-done, row-fits}
+use Rattle.sheet.specs.Layout.{Buffers, spell, Sheet}
+use Rattle.sheet.proofs.Held.{columns-held}
+use Rattle.sheet.proofs.Look.{bounds}
 use Rattle.lookups.specs.Answers.{edge}
-use Rattle.lookups.proofs.Laws.{row-at}
-use Rattle.escape.proofs.Bytes.{escape-long}
-use Rattle.pieces.specs.Pieces.{mostOf}
+use Rattle.pieces.specs.Pieces.{countAt, bytesTo, RowLies, textAt, charLine, mostOf}
 use Rattle.pieces.proofs.Tags.{edge-next}
-use Rattle.pieces.proofs.Room.{limited, most-few, tags-long, padded-long}
-use Rattle.partial.specs.Line.{shownCount, slashes}
+use Rattle.pieces.proofs.Lengths.{join, text-long, row-bytes, char-sum}
+use Rattle.pieces.proofs.Room.{limited, most-few, row-most}
+use Rattle.partial.specs.Line.{shownOf, Spread, Rows, Narrow, stretchOf, coveredOf, beforeOf, restOf, slashesOf}
+use Rattle.partial.proofs.Parts.{pad-none}
 
--- ---- tags before a boundary
-shown-long : (n : ℕ) (m : Mark) (r : List Tag) → Row n r → length (encodes (writeTags partial (shown n m r))) ≡ shownCount n m r + length (escape partial (bytesOf r))
-unfolding shown shownCount
-shown-long n none r h = rw (h .is-cut) (tags-long partial r)
-shown-long n word r h = padded-long partial n r (h .fits)
-shown-long n unknown r h = rw (h .is-cut) (tags-long partial r)
+-- ---- the bound: every byte escaped, and c columns for each character
+shown-most : (n c : ℕ) (m : Mark) (r : List Tag) → n ≤ c → Row c r → length (encodes (writeTags partial (shown n m r))) ≤ c + 2 * rowBytes r
+unfolding shown
+shown-most n c none r l h = rw (h .is-cut) (rw (pad-none r) at (row-most partial 0 c r (omega arith) (h .fits)))
+shown-most n c word r l h = row-most partial n c r l (h .fits)
+shown-most n c unknown r l h = rw (h .is-cut) (rw (pad-none r) at (row-most partial 0 c r (omega arith) (h .fits)))
 
--- ---- the line
 sign-wide : (m : Mark) → width (sign m) ≡ 1
 unfolding width sign if_then_else_
 sign-wide none = refl
 sign-wide word = refl
 sign-wide unknown = refl
 
-cells-long : (n : ℕ) (u : Cells) → CellsOf n u
-    → length (encodes (writePartial n u)) ≡ size (textOf u) + length (marksOf u) + slashes n (marksOf u) (rowsOf u) + length (escape partial (bytesOf (tagsOf (rowsOf u))))
-unfolding writePartial textOf marksOf rowsOf slashes size encodes tagsOf
-cells-long n (final c r) h = rw (length-append, length-encode, append-nil) (omega (arith, padded-long partial n r (h .1 .fits)))
-cells-long n (cell c r m u) h =
+cells-most : (n c : ℕ) (u : Cells) → n ≤ c → CellsOf c u → length (encodes (writePartial n u)) ≤ size (textOf u) + length (textOf u) * (c + 1) + 2 * tagBytes (rowsOf u)
+unfolding writePartial textOf rowsOf size encodes tagBytes
+cells-most n c (final x r) l h = rw (length-append, length-encode) (omega (arith, row-most partial n c r l (h .1 .fits)))
+cells-most n c (cell x r m u) l h =
     let w = encodes (writeTags partial (shown n m r)) in
-    rw (length-append, length-encode, encodes-append (writeTags partial (shown n m r)) (sign m ∷ writePartial n u), length-append w _, length-append, length-encode, sign-wide m, bytes-joined r (tagsOf (rowsOf u)), escape-append partial (bytesOf r) (bytesOf (tagsOf (rowsOf u))), length-append (escape partial (bytesOf r)))
-    (omega (arith, shown-long n m r (h .1), cells-long n u (h .2)))
+    rw (length-append, length-encode, encodes-append (writeTags partial (shown n m r)) (sign m ∷ writePartial n u), length-append w _, length-append, length-encode, sign-wide m)
+    (omega (arith, shown-most n c m r l (h .1), cells-most n c u l (h .2)))
 
--- no character has more slashes than columns
-slashes-few : (n : ℕ) (ms : List Mark) (rs : List (List Tag)) → All (Row n) rs → slashes n ms rs ≤ (length ms + 1) * n
-unfolding slashes shownCount
-slashes-few n [] rs k = omega arith
-slashes-few n (m ∷ ms) [] k = few m (slashes-few n ms [] tt)
-  where
-    few : (m : Mark) → slashes n ms [] ≤ (length ms + 1) * n → shownCount n m [] + slashes n ms [] ≤ (length (m ∷ ms) + 1) * n
-    few none i = omega arith
-    few word i = omega arith
-    few unknown i = omega arith
-slashes-few n (m ∷ ms) (r ∷ rs) k = few m (k .0 .fits) (slashes-few n ms rs (k .1))
-  where
-    few : (m : Mark) → length r ≤ n → slashes n ms rs ≤ (length ms + 1) * n → shownCount n m r + slashes n ms rs ≤ (length (m ∷ ms) + 1) * n
-    few none l i = omega arith
-    few word l i = omega arith
-    few unknown l i = omega arith
+module _ {r : Record} {d : Buffers} (h : Sheet r d) (n b e : ℕ) (l : n ≤ r .columns) where
+  pub line-most : length (written partial (shownOf n b e (spell r d))) ≤ mostOf r
+  unfolding mostOf line
+  line-most =
+      let u = spell r d .cells in
+      let k = rw (text-hidden b e 0 u, ← (bounds h .n-is), ← (bounds h .b-is), ← (columns-held h)) at (cells-most n (spell r d .columns) (hidden b e 0 u) (omega (arith, columns-held h)) (cells-hidden b e 0 (spell r d .columns) u (h .formed .cells-are))) in
+      omega (arith, k, bounds h, bytes-hidden b e 0 u)
 
--- before a boundary that is none of a word's
-other : (n b : ℕ) (row : List Tag) → (b ≡ 1 → ⊥) → shownCount n (markOf b) row ≡ length row
-unfolding shownCount markOf
-other n zero row e = refl
-other n (suc zero) row e = absurd (e refl)
-other n (suc (suc b)) row e = refl
+  pub line-few : length (written partial (shownOf n b e (spell r d))) ≤ 20000000
+  line-few = omega (arith, line-most, most-few (limited h))
 
-module _ {r : Record} {d : Buffers} (h : Sheet r d) where
-  -- the slashes of the line
-  abbrev pub slashesIn : ℕ
-  slashesIn = slashes (r .columns) (marks (spell r d)) (rows (spell r d))
+-- ---- what the first n characters of a sheet rise by
+module _ (rs es ds : List ℕ) where
+  -- the tag bytes of the rows from b up to e, and how long they are where they are escaped
+  abbrev pub escapedIn : ℕ → ℕ → ℕ
+  escapedIn b e = length (escape partial (drop (bytesTo rs es b) (take (bytesTo rs es e) ds)))
 
-  columns-same : slashesIn ≡ slashes (spell r d .columns) (marks (spell r d)) (rows (spell r d))
-  columns-same = ap (λ (n : ℕ). slashes n (marks (spell r d)) (rows (spell r d))) (columns-held h)
+  pub record Bytes (b e : ℕ) : Type 0 where
+    pub rises : bytesTo rs es b ≤ bytesTo rs es e
+    pub within : bytesTo rs es e ≤ length ds
 
-  slashes-most : slashesIn ≤ r .n * r .columns
-  slashes-most =
-      let b = bounds h in
-      let n : length (marks (spell r d)) + 1 ≡ r .n = omega arith in
-      let k = rw n at (slashes-few (spell r d .columns) (marks (spell r d)) (rows (spell r d)) (rows-held h)) in
-      omega (arith, columns-same, ap (λ (c : ℕ). r .n * c) (columns-held h))
+  bytes-one : (i : ℕ) → RowLies rs es ds i → Bytes i (i + 1)
+  bytes-one i h =
+      let m = edge-next rs i in
+      let p = row-bytes rs es ds i (edge rs i) (getD rs i 0) (edge es (edge rs i)) (edge es (getD rs i 0)) refl refl refl refl h in
+      record { rises = rw m (p .0); within = rw m (p .1) }
 
-  pub slashes-small : slashesIn ≤ 4096 * 4096
-  slashes-small = omega (arith, slashes-most, mul-le-mul {m₂ = 4096} (limited h .n-few) (limited h .columns-few))
+  -- of one part and another behind it
+  escaped-both : (b c e : ℕ) → Bytes b c → Bytes c e → escapedIn b c + escapedIn c e ≡ escapedIn b e
+  escaped-both b c e p q =
+      let x = bytesTo rs es b in
+      let y = bytesTo rs es c in
+      let z = bytesTo rs es e in
+      let u = escape partial (drop x (take y ds)) in
+      rw (← (join ds x y z (p .rises) (q .rises) (q .within)), escape-append partial _ _, length-append u _)
 
-  slash-next : (i : ℕ) → i < r .n - 1
-      → slashes (r .columns) (drop i (marks (spell r d))) (drop i (rows (spell r d)))
-      ≡ shownCount (r .columns) (markOf (getD (d .boundaries-buf) i 0)) (getD (rows (spell r d)) i []) + slashes (r .columns) (drop (i + 1) (marks (spell r d))) (drop (i + 1) (rows (spell r d)))
-  unfolding slashes
-  slash-next i l = rw (marks-step h i l, left [] (rows (spell r d)) i (omega (arith, bounds h)))
+module _ (text ps rs es ds : List ℕ) where
+  pub record Grown (b e : ℕ) : Type 0 where
+    pub climbs : getD ps b 0 ≤ getD ps e 0
+    pub bytes : Bytes rs es ds b e
 
-  -- ---- the length, from its parts
-  module _ {t u : ℕ} (p : t ≡ length (escape partial (take (r .g) (d .tag-bytes-buf)))) (q : u ≡ slashesIn) where
-    pub line-long : r .b + (r .n - 1) + u + t ≡ length (written partial (spell r d))
-    unfolding line
-    line-long =
-        let g = ap (λ (l : List ℕ). length (escape partial l)) (tag-bytes-held h .is) in
-        omega (arith, bounds h, columns-same, cells-long (spell r d .columns) (spell r d .cells) (h .formed .cells-are))
+  module _ (n : ℕ) (t : Spread ps text n) (w : Rows rs es ds n) where
+    grown-from : (k i : ℕ) → i + k < n → Grown i (i + k + 1)
+    grown-from zero i l = rw add-zero (record { climbs = t .lies i (omega arith) .rises; bytes = bytes-one rs es ds i (w .lies i (omega arith)) })
+    grown-from (suc k) i l =
+        let g = grown-from k (i + 1) (omega arith) in
+        let q : i + 1 + k + 1 ≡ i + suc k + 1 = omega arith in
+        let o = rw q at g in
+        let b = bytes-one rs es ds i (w .lies i (omega arith)) in
+        record {
+          climbs = omega (arith, t .lies i (omega arith) .rises, o .climbs);
+          bytes = record { rises = omega (arith, b .rises, o .bytes .rises); within = o .bytes .within };
+        }
 
-    -- within the bound, which is small
-    parts-most : r .b + (r .n - 1) + u + t ≤ mostOf r
-    unfolding mostOf
-    parts-most = omega (arith, bounds h, slashes-most, escape-long partial (take (r .g) (d .tag-bytes-buf)), length-take (r .g) (d .tag-bytes-buf))
+    pub grown : (b e : ℕ) → b < e → e ≤ n → Grown b e
+    grown b e l m = let q : b + (e - b - 1) + 1 ≡ e = omega arith in rw q at (grown-from (e - b - 1) b (omega arith))
 
-    pub parts-small : r .b + (r .n - 1) + u + t ≤ 20000000
-    parts-small = omega (arith, parts-most, most-few (limited h))
+    -- with no step too
+    span : (b e : ℕ) → b ≤ e → 1 ≤ e → e ≤ n → Grown b e
+    span b e l o m = on (ltb b e) refl
+      where
+        on : (v : Bool) → ltb b e ≡ v → Grown b e
+        on true q = grown b e (ltb-true b e q) m
+        on false q =
+            let z : b ≡ e = omega (arith, ltb-false b e q) in
+            rw z (record { climbs = omega arith; bytes = record { rises = omega arith; within = grown (e - 1) e (omega arith) m .bytes .within } })
 
-  pub line-most : length (written partial (spell r d)) ≤ mostOf r
-  line-most = omega (arith, line-long refl refl, parts-most refl refl)
+-- ---- the length of each part
+module _ (n : ℕ) (text bs ps rs es ds : List ℕ) where
+  slashed : (i : ℕ) → countAt rs i ≤ n → countAt rs i + ((if eqb (getD bs i 0) 1 then n else 0) - countAt rs i) ≡ (if eqb (getD bs i 0) 1 then n else countAt rs i)
+  slashed i l = on (eqb (getD bs i 0) 1) refl
+    where
+      on : (v : Bool) → eqb (getD bs i 0) 1 ≡ v → countAt rs i + ((if v then n else 0) - countAt rs i) ≡ (if v then n else countAt rs i)
+      on true q = rw (if-true true n 0 refl, if-true true n (countAt rs i) refl) (omega arith)
+      on false q = rw (if-false false n 0 refl, if-false false n (countAt rs i) refl) (omega arith)
 
--- ---- a loop that counts the slashes: it is at the i-th character, whose row starts at the k-th tag
-pub record Slashing (r : Record) (d : Buffers) (sum k i : ℕ) : Type 0 where
-  pub sheet : Sheet r d
-  pub known : Bounds r d (spell r d)
-  pub upto : i ≤ r .n - 1
-  pub here : k ≡ edge (d .row-ends-buf) i
-  pub same : sum + slashes (r .columns) (drop i (marks (spell r d))) (drop i (rows (spell r d))) ≡ slashes (r .columns) (marks (spell r d)) (rows (spell r d))
-  pub few : sum ≤ 4096 * 4096
+  pub stretch-sum : (k i : ℕ) → Spread ps text (i + k) → Rows rs es ds (i + k) → Narrow rs n i (i + k)
+      → length (stretchOf text bs ps rs es ds n i k) ≡ getD ps (i + k) 0 - getD ps i 0 + k + slashesOf bs rs n i k + escapedIn rs es ds i (i + k)
+  unfolding stretchOf slashesOf escape
+  stretch-sum zero i t w f = let z : i + 0 ≡ i = omega arith in rw (z, slice-empty (bytesTo rs es i) ds) (omega arith)
+  stretch-sum (suc k) i t w f =
+      let q : i + suc k ≡ i + 1 + k = omega arith in
+      let h = stretch-sum k (i + 1) (rw q at t) (rw q at w) (record { few = λ j x y. f .few j (omega arith) (omega arith) }) in
+      let m = if eqb (getD bs i 0) 1 then n else 0 in
+      let c = char-sum m text ps rs es ds i (t .lies i (omega arith)) (w .lies i (omega arith)) in
+      let g = span text ps rs es ds (i + suc k) t w i (i + 1) (omega arith) (omega arith) (omega arith) in
+      let o = span text ps rs es ds (i + suc k) t w (i + 1) (i + 1 + k) (omega arith) (omega arith) (omega arith) in
+      rw (length-append (charLine m text ps rs es ds i) _, q)
+      (omega (arith, h, c, slashed i (f .few i (omega arith) (omega arith)), g .climbs, o .climbs, escaped-both rs es ds i (i + 1) (i + 1 + k) (g .bytes) (o .bytes)))
 
-pub slash-start : {r : Record} {d : Buffers} → Sheet r d → Slashing r d 0 0 0
-slash-start h = record { sheet = h; known = bounds h; upto = omega arith; here = refl; same = omega arith; few = omega arith }
+  pub before-sum : (p : ℕ) → Spread ps text (p + 1) → Rows rs es ds (p + 1) → Narrow rs n 0 (p + 1)
+      → length (beforeOf text bs ps rs es ds n (suc p)) ≡ getD ps (p + 1) 0 - getD ps 0 0 + (p + 1) + slashesOf bs rs n 0 p + countAt rs p + escapedIn rs es ds 0 (p + 1)
+  unfolding beforeOf
+  before-sum p t w f =
+      let y : 0 + p ≡ p = omega arith in
+      let h = rw y at (stretch-sum p 0 (record { lies = λ i x. t .lies i (omega arith) }) (record { lies = λ i x. w .lies i (omega arith) }) (record { few = λ j x y. f .few j (omega arith) (omega arith) })) in
+      let c = char-sum 0 text ps rs es ds p (t .lies p (omega arith)) (w .lies p (omega arith)) in
+      let g = span text ps rs es ds (p + 1) t w p (p + 1) (omega arith) (omega arith) (omega arith) in
+      let o = first-span p t w in
+      rw (length-append (stretchOf text bs ps rs es ds n 0 p) _, length-append (charLine 0 text ps rs es ds p) (32 ∷ []))
+      (omega (arith, h, c, g .climbs, o .climbs, escaped-both rs es ds 0 p (p + 1) (o .bytes) (g .bytes)))
+    where
+      first-span : (p : ℕ) → Spread ps text (p + 1) → Rows rs es ds (p + 1) → Grown text ps rs es ds 0 p
+      first-span zero t w = record { climbs = omega arith; bytes = record { rises = omega arith; within = omega arith } }
+      first-span (suc p) t w = span text ps rs es ds (suc p + 1) t w 0 (suc p) (omega arith) (omega arith) (omega arith)
 
-module _ {r : Record} {d : Buffers} {sum k i : ℕ} (t : Slashing r d sum k i) where
-  -- the i-th character, whose row ends at the e-th tag
-  module _ (l : i < r .n - 1) {e : ℕ} (p : e ≡ getD (d .row-ends-buf) i 0) where
-    row-counts : e ≡ k + length (getD (rows (spell r d)) i [])
-    row-counts = omega (arith, row-at (t .sheet) i (omega arith) .last-is, t .here)
+  pub rest-sum : (i last : ℕ) → i ≤ last → Spread ps text (last + 1) → Rows rs es ds (last + 1) → Narrow rs n i (last + 1)
+      → length (restOf text bs ps rs es ds n i last) ≡ getD ps (last + 1) 0 - getD ps i 0 + (last - i) + slashesOf bs rs n i (last - i) + n + escapedIn rs es ds i (last + 1)
+  rest-sum i last l t w f =
+      let q : i + (last - i) ≡ last = omega arith in
+      let h = rw q at (stretch-sum (last - i) i (record { lies = λ j x. t .lies j (omega arith) }) (record { lies = λ j x. w .lies j (omega arith) }) (record { few = λ j x y. f .few j (omega arith) (omega arith) })) in
+      let c = char-sum n text ps rs es ds last (t .lies last (omega arith)) (w .lies last (omega arith)) in
+      let g = span text ps rs es ds (last + 1) t w last (last + 1) (omega arith) (omega arith) (omega arith) in
+      let o = whole-span i last l t w in
+      rw (length-append (stretchOf text bs ps rs es ds n i (last - i)) (charLine n text ps rs es ds last))
+      (omega (arith, h, c, f .few last (omega arith) (omega arith), g .climbs, o .climbs, escaped-both rs es ds i last (last + 1) (o .bytes) (g .bytes)))
+    where
+      whole-span : (i last : ℕ) → i ≤ last → Spread ps text (last + 1) → Rows rs es ds (last + 1) → Grown text ps rs es ds i last
+      whole-span zero zero l t w = record { climbs = omega arith; bytes = record { rises = omega arith; within = omega arith } }
+      whole-span (suc i) zero l t w = absurd (omega arith)
+      whole-span i (suc last) l t w = span text ps rs es ds (suc last + 1) t w i (suc last) (omega arith) (omega arith) (omega arith)
 
-    pub row-rises : k ≤ e
-    row-rises = omega (arith, row-counts)
+  pub climbs : (k i : ℕ) → Spread ps text (i + k) → getD ps i 0 ≤ getD ps (i + k) 0
+  climbs zero i t = let z : i + 0 ≡ i = omega arith in rw z (omega arith)
+  climbs (suc k) i t = let q : i + suc k ≡ i + 1 + k = omega arith in rw q (omega (arith, t .lies i (omega arith) .rises, climbs k (i + 1) (rw q at t)))
 
-    pub row-few : e - k ≤ 4096
-    row-few = omega (arith, row-counts, t .known, row-fits (t .sheet) i (omega arith))
-
-    turned : (n : ℕ) → n ≡ shownCount (r .columns) (markOf (getD (d .boundaries-buf) i 0)) (getD (rows (spell r d)) i []) → Slashing r d (sum + n) e (i + 1)
-    turned n q =
-        let same : sum + n + slashes (r .columns) (drop (i + 1) (marks (spell r d))) (drop (i + 1) (rows (spell r d))) ≡ slashes (r .columns) (marks (spell r d)) (rows (spell r d)) = omega (arith, q, t .same, slash-next (t .sheet) i l) in
-        record { sheet = t .sheet; known = t .known; upto = omega arith; here = p ∙ sym (edge-next (d .row-ends-buf) i); same = same; few = omega (arith, slashes-small (t .sheet), same) }
-
-    pub slash-word : getD (d .boundaries-buf) i 0 ≡ 1 → Slashing r d (sum + r .columns) e (i + 1)
-    unfolding shownCount
-    slash-word q = turned (r .columns) (rw (mark-word _ q))
-
-    pub slash-other : (getD (d .boundaries-buf) i 0 ≡ 1 → ⊥) → Slashing r d (sum + (e - k)) e (i + 1)
-    slash-other q = turned (e - k) (omega (arith, row-counts, other (r .columns) (getD (d .boundaries-buf) i 0) (getD (rows (spell r d)) i []) q))
-
-  pub slash-done : r .n - 1 ≤ i → sum + r .columns ≡ slashes (r .columns) (marks (spell r d)) (rows (spell r d))
-  unfolding slashes
-  slash-done l = rw (marks-done (t .sheet) i l) at (t .same)
+  pub covered-sum : (k i : ℕ) → Spread ps text (i + k) → length (coveredOf text ps i k) ≡ getD ps (i + k) 0 - getD ps i 0 + k
+  unfolding coveredOf
+  covered-sum zero i t = let z : i + 0 ≡ i = omega arith in rw z (omega arith)
+  covered-sum (suc k) i t =
+      let q : i + suc k ≡ i + 1 + k = omega arith in
+      rw (length-append (textAt ps text i (i + 1)) _, q)
+      (omega (arith, covered-sum k (i + 1) (rw q at t), text-long ps text i (t .lies i (omega arith)), t .lies i (omega arith) .rises, climbs k (i + 1) (rw q at t)))

@@ -1,16 +1,64 @@
--- How many slashes the partial form has.
-use Prim.Native.Nat.{ℕ, _+_}
-use mathlib.Core.List.{List, [], _∷_}
-use lib.ListN.{length, drop, getD}
-use Rattle.sentence.specs.Sentence.{Tag, Mark, none, word, unknown}
+-- The partial line of a sheet with a range of its characters hidden, and the parts that it is made of.
+use Prim.Native.Nat.{ℕ, zero, suc, _+_, _-_, _≤_, _<_}
+use mathlib.Core.List.{List, [], _∷_, _++_}
+use lib.Dec.{eqb}
+use lib.ListN.{getD, replicate}
+use Rattle.laws.specs.If.{if_then_else_}
+use Rattle.sentence.specs.Sentence.{Sentence}
+use Rattle.sentence.specs.Writing.{sign}
+use Rattle.sentence.specs.Withheld.{hidden, widest}
+use Rattle.sheet.specs.declared.Record.{Record}
+use Rattle.sheet.specs.Layout.{Buffers, markOf, spell}
+use Rattle.pieces.specs.Pieces.{countAt, TextLies, RowLies, textAt, charLine}
 
--- how many tags are written before a boundary
-unfoldable pub shownCount : ℕ → Mark → List Tag → ℕ
-shownCount n none r = length r
-shownCount n word r = n
-shownCount n unknown r = length r
+-- n columns, and no label that belongs to a character from b up to e
+abbrev pub shownOf : ℕ → ℕ → ℕ → Sentence → Sentence
+shownOf n b e s = record { cells = hidden b e 0 (s .cells); columns = n }
 
--- the slashes of characters with the boundaries between them and their rows; the last writes all n columns
-unfoldable pub slashes : ℕ → List Mark → List (List Tag) → ℕ
-slashes n [] rs = n
-slashes n (m ∷ ms) rs = shownCount n m (getD rs 0 []) + slashes n ms (drop 1 rs)
+-- what is asked for a line of n columns that hides the characters from b up to e: they are there, and no row that shows has more columns
+pub record Asked (r : Record) (d : Buffers) (n b e : ℕ) : Type 0 where
+  pub ordered : b ≤ e
+  pub inside : e ≤ r .n
+  pub enough : widest (hidden b e 0 (spell r d .cells)) ≤ n
+  pub narrow : n ≤ r .columns
+
+-- the text of the first n characters lies in `text`
+pub record Spread (ps text : List ℕ) (n : ℕ) : Type 0 where
+  pub lies : (i : ℕ) → i < n → TextLies ps text i (i + 1)
+
+-- the first n rows lie among tags that lie in `ds`
+pub record Rows (rs es ds : List ℕ) (n : ℕ) : Type 0 where
+  pub lies : (i : ℕ) → i < n → RowLies rs es ds i
+
+-- the rows from b up to e list at most n tags each
+pub record Narrow (rs : List ℕ) (n b e : ℕ) : Type 0 where
+  pub few : (i : ℕ) → b ≤ i → i < e → countAt rs i ≤ n
+
+-- the k characters from the i-th on with their tags and boundaries; before a word boundary all n columns
+unfoldable pub stretchOf : List ℕ → List ℕ → List ℕ → List ℕ → List ℕ → List ℕ → ℕ → ℕ → ℕ → List ℕ
+stretchOf text bs ps rs es ds n i zero = []
+stretchOf text bs ps rs es ds n i (suc k) =
+    charLine (if eqb (getD bs i 0) 1 then n else 0) text ps rs es ds i ++ (sign (markOf (getD bs i 0)) ∷ stretchOf text bs ps rs es ds n (i + 1) k)
+
+-- the k characters from the i-th on without a label
+unfoldable pub coveredOf : List ℕ → List ℕ → ℕ → ℕ → List ℕ
+coveredOf text ps i zero = []
+coveredOf text ps i (suc k) = textAt ps text i (i + 1) ++ (32 ∷ coveredOf text ps (i + 1) k)
+
+-- the first k characters, the last of them before an unknown boundary
+unfoldable pub beforeOf : List ℕ → List ℕ → List ℕ → List ℕ → List ℕ → List ℕ → ℕ → ℕ → List ℕ
+beforeOf text bs ps rs es ds n zero = []
+beforeOf text bs ps rs es ds n (suc p) = stretchOf text bs ps rs es ds n 0 p ++ (charLine 0 text ps rs es ds p ++ (32 ∷ []))
+
+-- the characters from the i-th on to the last
+abbrev pub restOf : List ℕ → List ℕ → List ℕ → List ℕ → List ℕ → List ℕ → ℕ → ℕ → ℕ → List ℕ
+restOf text bs ps rs es ds n i last = stretchOf text bs ps rs es ds n i (last - i) ++ charLine n text ps rs es ds last
+
+-- the i-th character, its n columns absent
+abbrev pub bareOf : List ℕ → List ℕ → ℕ → ℕ → List ℕ
+bareOf text ps n i = textAt ps text i (i + 1) ++ replicate n 47
+
+-- the slashes of the k characters from the i-th on
+unfoldable pub slashesOf : List ℕ → List ℕ → ℕ → ℕ → ℕ → ℕ
+slashesOf bs rs n i zero = 0
+slashesOf bs rs n i (suc k) = (if eqb (getD bs i 0) 1 then n else countAt rs i) + slashesOf bs rs n (i + 1) k

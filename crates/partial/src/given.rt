@@ -1,21 +1,27 @@
-// Internal: each function assumes a checked sheet, and the writer room for the line.
+// Internal: each function assumes a checked sheet, or parts that lie in their slices, and the writers room for what they write.
 use escape::given::escaped_len;
+use escape::given::repeat;
+use pieces::given::bytes_before;
+use pieces::given::char_apart;
 use pieces::given::char_into;
 use pieces::given::most;
-use pieces::given::wide;
+use pieces::given::row_count;
+use pieces::given::text_into;
+use pieces::given::text_len;
 use sheet::Record;
-ghost use Prim.Native.Nat.{_+_, _-_, _≤_, _<_};
+ghost use Prim.Native.Nat.{_+_, _-_, _^_, _≤_, _<_};
 ghost use mathlib.Core.Path.{_≡_};
 ghost use lib.Dec.{eqb};
-ghost use lib.ListN.{length};
+ghost use lib.ListN.{length, getD};
 ghost use Rattle.laws.specs.If.{if_then_else_};
-ghost use Rattle.sentence.specs.Sentence.{marks, rows};
 ghost use Rattle.sentence.specs.Reading.{partial};
 ghost use Rattle.sentence.specs.Writing.{sign, written};
+ghost use Rattle.sentence.specs.Withheld.{inRange, hidden, widest};
 ghost use Rattle.sheet.specs.Layout.{buffers, markOf, spell, Sheet};
-ghost use Rattle.pieces.specs.Pieces.{shortOf};
-ghost use Rattle.escape.specs.Wrote.{Lined};
-ghost use Rattle.partial.specs.Line.{slashes};
+ghost use Rattle.lookups.specs.Answers.{edge};
+ghost use Rattle.pieces.specs.Pieces.{countAt, shortOf};
+ghost use Rattle.escape.specs.Wrote.{Wrote, Lined};
+ghost use Rattle.partial.specs.Line.{shownOf, Spread, Rows, Narrow, stretchOf, coveredOf, beforeOf, restOf, bareOf, slashesOf, Asked};
 
 // The sign of a boundary.
 fn sign_of(m: u8) -> u8
@@ -30,7 +36,7 @@ fn sign_of(m: u8) -> u8
     32
 }
 
-// How many columns are written at least before a boundary: all before a word boundary.
+// How many columns are written before a boundary: all before a word boundary, else those of the row.
 fn columns_before(m: u8, columns: usize) -> usize
     ensures { λ r. ⌜ r ≡ (if eqb m 1 then columns else 0) ⌝ }
 {
@@ -40,8 +46,29 @@ fn columns_before(m: u8, columns: usize) -> usize
     0
 }
 
-// How many slashes the line has.
-fn count_slashes(
+// Whether the i-th character is one of those from `start` up to `end`, which are hidden.
+fn is_hidden(start: usize, end: usize, i: usize) -> bool
+    ensures { λ r. ⌜ r ≡ inRange start end i ⌝ }
+{
+    if i < start {
+        return false;
+    }
+    i < end
+}
+
+// How many tags the i-th row shows: none where it is hidden.
+fn tags_shown(row_ends: &[u16], start: usize, end: usize, i: usize) -> usize
+    requires { ⌜ (i < length (now «row_ends»)) × (edge (now «row_ends») i ≤ getD (now «row_ends») i 0) ⌝ }
+    ensures { λ r. ⌜ r ≡ (if inRange start end i then 0 else countAt (now («row_ends» .entry)) i) ⌝ }
+{
+    if is_hidden(start, end, i) {
+        return 0;
+    }
+    row_count(row_ends, i)
+}
+
+// How many columns have a present tag outside the range.
+pub fn columns_shown(
     r: Record,
     text: &[u8],
     types: &[u8],
@@ -51,31 +78,112 @@ fn count_slashes(
     row_ends: &[u16],
     tag_ends: &[u16],
     tag_bytes: &[u8],
+    start: usize,
+    end: usize,
 ) -> usize
     requires { ⌜ Sheet r (buffers (now text) (now types) (now boundaries) (now «char_pos») (now «byte_pos») (now «row_ends») (now «tag_ends») (now «tag_bytes»)) ⌝ }
-    ensures { λ a. ⌜ a ≡ slashes (r .columns) (marks (spell r (buffers (now (text .entry)) (now (types .entry)) (now (boundaries .entry)) (now («char_pos» .entry)) (now («byte_pos» .entry)) (now («row_ends» .entry)) (now («tag_ends» .entry)) (now («tag_bytes» .entry))))) (rows (spell r (buffers (now (text .entry)) (now (types .entry)) (now (boundaries .entry)) (now («char_pos» .entry)) (now («byte_pos» .entry)) (now («row_ends» .entry)) (now («tag_ends» .entry)) (now («tag_bytes» .entry))))) ⌝ }
+    ensures { λ a. ⌜ a ≡ widest (hidden start end 0 (spell r (buffers (now (text .entry)) (now (types .entry)) (now (boundaries .entry)) (now («char_pos» .entry)) (now («byte_pos» .entry)) (now («row_ends» .entry)) (now («tag_ends» .entry)) (now («tag_bytes» .entry))) .cells)) ⌝ }
 {
-    let last = r.n - 1;
-    let mut sum = 0;
-    let mut k = 0;
+    let mut columns = 0;
     let mut i = 0;
-    while i < last {
-        let end = wide(row_ends[i]);
-        if boundaries[i] == 1 {
-            sum += r.columns;
-            k = end;
+    while i < r.n {
+        let listed = tags_shown(row_ends, start, end, i);
+        if columns < listed {
+            columns = listed;
             i += 1;
         } else {
-            sum += end - k;
-            k = end;
             i += 1;
         }
     }
-    sum + r.columns
+    columns
 }
 
-// How long the line is.
-pub fn partial_len(
+// How many slashes the characters from `from` up to `upto` have.
+fn count_slashes(
+    boundaries: &[u8],
+    row_ends: &[u16],
+    tag_ends: &[u16],
+    tag_bytes: &[u8],
+    columns: usize,
+    from: usize,
+    upto: usize,
+) -> usize
+    requires { ⌜ Rows (now «row_ends») (now «tag_ends») (now «tag_bytes») upto × (from ≤ upto) × (upto ≤ length (now boundaries)) × (slashesOf (now boundaries) (now «row_ends») columns from (upto - from) < 2 ^ 32) ⌝ }
+    ensures { λ a. ⌜ a ≡ slashesOf (now (boundaries .entry)) (now («row_ends» .entry)) columns from (upto - from) ⌝ }
+{
+    let mut sum = 0;
+    let mut i = from;
+    while i < upto {
+        if boundaries[i] == 1 {
+            sum += columns;
+            i += 1;
+        } else {
+            sum += row_count(row_ends, i);
+            i += 1;
+        }
+    }
+    sum
+}
+
+// How many bytes the characters before `start` take, the last of them before an unknown boundary.
+fn before_len(
+    text: &[u8],
+    boundaries: &[u8],
+    char_pos: &[u16],
+    row_ends: &[u16],
+    tag_ends: &[u16],
+    tag_bytes: &[u8],
+    columns: usize,
+    start: usize,
+) -> usize
+    requires { ⌜ Spread (now «char_pos») (now text) start × Rows (now «row_ends») (now «tag_ends») (now «tag_bytes») start × Narrow (now «row_ends») columns 0 start × (start ≤ length (now boundaries) + 1) × (length (beforeOf (now text) (now boundaries) (now «char_pos») (now «row_ends») (now «tag_ends») (now «tag_bytes») columns start) < 2 ^ 32) ⌝ }
+    ensures { λ a. ⌜ a ≡ length (beforeOf (now (text .entry)) (now (boundaries .entry)) (now («char_pos» .entry)) (now («row_ends» .entry)) (now («tag_ends» .entry)) (now («tag_bytes» .entry)) columns start) ⌝ }
+{
+    if start == 0 {
+        return 0;
+    }
+    let last = start - 1;
+    let bytes = text_len(char_pos, 0, start);
+    let slashes = count_slashes(boundaries, row_ends, tag_ends, tag_bytes, columns, 0, last);
+    let listed = row_count(row_ends, last);
+    let to = bytes_before(row_ends, tag_ends, start);
+    let tags = escaped_len(true, tag_bytes, 0, to);
+    bytes + start + slashes + listed + tags
+}
+
+// How many bytes the characters from `from` on take, up to the last.
+fn rest_len(
+    text: &[u8],
+    boundaries: &[u8],
+    char_pos: &[u16],
+    row_ends: &[u16],
+    tag_ends: &[u16],
+    tag_bytes: &[u8],
+    columns: usize,
+    from: usize,
+    last: usize,
+) -> usize
+    requires { ⌜ Spread (now «char_pos») (now text) (last + 1) × Rows (now «row_ends») (now «tag_ends») (now «tag_bytes») (last + 1) × Narrow (now «row_ends») columns from (last + 1) × (from ≤ last) × (last ≤ length (now boundaries)) × (length (restOf (now text) (now boundaries) (now «char_pos») (now «row_ends») (now «tag_ends») (now «tag_bytes») columns from last) < 2 ^ 32) ⌝ }
+    ensures { λ a. ⌜ a ≡ length (restOf (now (text .entry)) (now (boundaries .entry)) (now («char_pos» .entry)) (now («row_ends» .entry)) (now («tag_ends» .entry)) (now («tag_bytes» .entry)) columns from last) ⌝ }
+{
+    let bytes = text_len(char_pos, from, last + 1);
+    let slashes = count_slashes(
+        boundaries,
+        row_ends,
+        tag_ends,
+        tag_bytes,
+        columns,
+        from,
+        last,
+    );
+    let start = bytes_before(row_ends, tag_ends, from);
+    let to = bytes_before(row_ends, tag_ends, last + 1);
+    let tags = escaped_len(true, tag_bytes, start, to);
+    bytes + (last - from) + slashes + columns + tags
+}
+
+// How long the line is that has so many columns and hides a range.
+fn shown_len(
     r: Record,
     text: &[u8],
     types: &[u8],
@@ -85,13 +193,78 @@ pub fn partial_len(
     row_ends: &[u16],
     tag_ends: &[u16],
     tag_bytes: &[u8],
+    columns: usize,
+    start: usize,
+    end: usize,
 ) -> usize
-    requires { ⌜ Sheet r (buffers (now text) (now types) (now boundaries) (now «char_pos») (now «byte_pos») (now «row_ends») (now «tag_ends») (now «tag_bytes»)) ⌝ }
-    ensures { λ a. ⌜ a ≡ length (written partial (spell r (buffers (now (text .entry)) (now (types .entry)) (now (boundaries .entry)) (now («char_pos» .entry)) (now («byte_pos» .entry)) (now («row_ends» .entry)) (now («tag_ends» .entry)) (now («tag_bytes» .entry))))) ⌝ }
+    requires { ⌜ Sheet r (buffers (now text) (now types) (now boundaries) (now «char_pos») (now «byte_pos») (now «row_ends») (now «tag_ends») (now «tag_bytes»)) × Asked r (buffers (now text) (now types) (now boundaries) (now «char_pos») (now «byte_pos») (now «row_ends») (now «tag_ends») (now «tag_bytes»)) columns start end ⌝ }
+    ensures { λ a. ⌜ a ≡ length (written partial (shownOf columns start end (spell r (buffers (now (text .entry)) (now (types .entry)) (now (boundaries .entry)) (now («char_pos» .entry)) (now («byte_pos» .entry)) (now («row_ends» .entry)) (now («tag_ends» .entry)) (now («tag_bytes» .entry)))))) ⌝ }
 {
-    let g = r.g;
-    let tags = escaped_len(true, tag_bytes, 0, g);
-    let slashes = count_slashes(
+    let last = r.n - 1;
+    if start == end {
+        return rest_len(
+            text,
+            boundaries,
+            char_pos,
+            row_ends,
+            tag_ends,
+            tag_bytes,
+            columns,
+            0,
+            last,
+        );
+    }
+    let before = before_len(
+        text,
+        boundaries,
+        char_pos,
+        row_ends,
+        tag_ends,
+        tag_bytes,
+        columns,
+        start,
+    );
+    let bytes = text_len(char_pos, start, end);
+    if end == r.n {
+        return before + bytes + (last - start) + columns;
+    }
+    let rest = rest_len(
+        text,
+        boundaries,
+        char_pos,
+        row_ends,
+        tag_ends,
+        tag_bytes,
+        columns,
+        end,
+        last,
+    );
+    before + bytes + (end - start) + rest
+}
+
+// How long that line is, where there is less room, and else 0; it is measured only where the bound leaves that open.
+pub fn shown_short(
+    r: Record,
+    text: &[u8],
+    types: &[u8],
+    boundaries: &[u8],
+    char_pos: &[u16],
+    byte_pos: &[u16],
+    row_ends: &[u16],
+    tag_ends: &[u16],
+    tag_bytes: &[u8],
+    columns: usize,
+    start: usize,
+    end: usize,
+    room: usize,
+) -> usize
+    requires { ⌜ Sheet r (buffers (now text) (now types) (now boundaries) (now «char_pos») (now «byte_pos») (now «row_ends») (now «tag_ends») (now «tag_bytes»)) × Asked r (buffers (now text) (now types) (now boundaries) (now «char_pos») (now «byte_pos») (now «row_ends») (now «tag_ends») (now «tag_bytes»)) columns start end ⌝ }
+    ensures { λ a. ⌜ a ≡ shortOf room (length (written partial (shownOf columns start end (spell r (buffers (now (text .entry)) (now (types .entry)) (now (boundaries .entry)) (now («char_pos» .entry)) (now («byte_pos» .entry)) (now («row_ends» .entry)) (now («tag_ends» .entry)) (now («tag_bytes» .entry))))))) ⌝ }
+{
+    if most(r) <= room {
+        return 0;
+    }
+    let needed = shown_len(
         r,
         text,
         types,
@@ -101,11 +274,252 @@ pub fn partial_len(
         row_ends,
         tag_ends,
         tag_bytes,
+        columns,
+        start,
+        end,
     );
-    r.b + (r.n - 1) + slashes + tags
+    if room < needed {
+        return needed;
+    }
+    0
 }
 
-// How long the line is, where there is less room, and else 0; it is measured only where the bound leaves that open.
+// The characters from `from` up to `upto` with their tags and boundaries.
+fn stretch_into(
+    text: &[u8],
+    boundaries: &[u8],
+    char_pos: &[u16],
+    row_ends: &[u16],
+    tag_ends: &[u16],
+    tag_bytes: &[u8],
+    columns: usize,
+    from: usize,
+    upto: usize,
+    out: &mut [u8],
+    at: usize,
+) -> usize
+    requires { ⌜ Spread (now «char_pos») (now text) upto × Rows (now «row_ends») (now «tag_ends») (now «tag_bytes») upto × (from ≤ upto) × (upto ≤ length (now boundaries)) × (at + length (stretchOf (now text) (now boundaries) (now «char_pos») (now «row_ends») (now «tag_ends») (now «tag_bytes») columns from (upto - from)) ≤ length (now out)) ⌝ }
+    ensures { λ a. ⌜ Wrote (now (out .entry)) at (stretchOf (now (text .entry)) (now (boundaries .entry)) (now («char_pos» .entry)) (now («row_ends» .entry)) (now («tag_ends» .entry)) (now («tag_bytes» .entry)) columns from (upto - from)) (now (out .exit)) a ⌝ }
+{
+    let mut n = at;
+    let mut i = from;
+    while i < upto {
+        let m = boundaries[i];
+        let width = columns_before(m, columns);
+        n = char_into(
+            text,
+            char_pos,
+            row_ends,
+            tag_ends,
+            tag_bytes,
+            i,
+            width,
+            out,
+            n,
+        );
+        out[n] = sign_of(m);
+        n += 1;
+        i += 1;
+    }
+    n
+}
+
+// The characters before `start`, the last of them before an unknown boundary.
+fn before_into(
+    text: &[u8],
+    boundaries: &[u8],
+    char_pos: &[u16],
+    row_ends: &[u16],
+    tag_ends: &[u16],
+    tag_bytes: &[u8],
+    columns: usize,
+    start: usize,
+    out: &mut [u8],
+) -> usize
+    requires { ⌜ Spread (now «char_pos») (now text) start × Rows (now «row_ends») (now «tag_ends») (now «tag_bytes») start × (start ≤ length (now boundaries) + 1) × (length (beforeOf (now text) (now boundaries) (now «char_pos») (now «row_ends») (now «tag_ends») (now «tag_bytes») columns start) ≤ length (now out)) ⌝ }
+    ensures { λ a. ⌜ Wrote (now (out .entry)) 0 (beforeOf (now (text .entry)) (now (boundaries .entry)) (now («char_pos» .entry)) (now («row_ends» .entry)) (now («tag_ends» .entry)) (now («tag_bytes» .entry)) columns start) (now (out .exit)) a ⌝ }
+{
+    if start == 0 {
+        return 0;
+    }
+    let last = start - 1;
+    let n = stretch_into(
+        text,
+        boundaries,
+        char_pos,
+        row_ends,
+        tag_ends,
+        tag_bytes,
+        columns,
+        0,
+        last,
+        out,
+        0,
+    );
+    let k = char_apart(
+        text,
+        char_pos,
+        row_ends,
+        tag_ends,
+        tag_bytes,
+        last,
+        0,
+        out,
+        n,
+    );
+    out[k] = 32;
+    k + 1
+}
+
+// The characters from `from` up to `upto` without a label.
+fn covered_into(
+    text: &[u8],
+    char_pos: &[u16],
+    from: usize,
+    upto: usize,
+    out: &mut [u8],
+    at: usize,
+) -> usize
+    requires { ⌜ Spread (now «char_pos») (now text) upto × (from ≤ upto) × (at + length (coveredOf (now text) (now «char_pos») from (upto - from)) ≤ length (now out)) ⌝ }
+    ensures { λ a. ⌜ Wrote (now (out .entry)) at (coveredOf (now (text .entry)) (now («char_pos» .entry)) from (upto - from)) (now (out .exit)) a ⌝ }
+{
+    let mut n = at;
+    let mut i = from;
+    while i < upto {
+        n = text_into(text, char_pos, i, out, n);
+        out[n] = 32;
+        n += 1;
+        i += 1;
+    }
+    n
+}
+
+// The i-th character with its columns absent.
+fn bare_into(
+    text: &[u8],
+    char_pos: &[u16],
+    i: usize,
+    columns: usize,
+    out: &mut [u8],
+    at: usize,
+) -> usize
+    requires { ⌜ Spread (now «char_pos») (now text) (i + 1) × (at + length (bareOf (now text) (now «char_pos») columns i) ≤ length (now out)) ⌝ }
+    ensures { λ a. ⌜ Wrote (now (out .entry)) at (bareOf (now (text .entry)) (now («char_pos» .entry)) columns i) (now (out .exit)) a ⌝ }
+{
+    let n = text_into(text, char_pos, i, out, at);
+    repeat(47, columns, out, n)
+}
+
+// The characters from `from` on, up to the last.
+fn rest_into(
+    text: &[u8],
+    boundaries: &[u8],
+    char_pos: &[u16],
+    row_ends: &[u16],
+    tag_ends: &[u16],
+    tag_bytes: &[u8],
+    columns: usize,
+    from: usize,
+    last: usize,
+    out: &mut [u8],
+    at: usize,
+) -> usize
+    requires { ⌜ Spread (now «char_pos») (now text) (last + 1) × Rows (now «row_ends») (now «tag_ends») (now «tag_bytes») (last + 1) × (from ≤ last) × (last ≤ length (now boundaries)) × (at + length (restOf (now text) (now boundaries) (now «char_pos») (now «row_ends») (now «tag_ends») (now «tag_bytes») columns from last) ≤ length (now out)) ⌝ }
+    ensures { λ a. ⌜ Wrote (now (out .entry)) at (restOf (now (text .entry)) (now (boundaries .entry)) (now («char_pos» .entry)) (now («row_ends» .entry)) (now («tag_ends» .entry)) (now («tag_bytes» .entry)) columns from last) (now (out .exit)) a ⌝ }
+{
+    let n = stretch_into(
+        text,
+        boundaries,
+        char_pos,
+        row_ends,
+        tag_ends,
+        tag_bytes,
+        columns,
+        from,
+        last,
+        out,
+        at,
+    );
+    char_apart(
+        text,
+        char_pos,
+        row_ends,
+        tag_ends,
+        tag_bytes,
+        last,
+        columns,
+        out,
+        n,
+    )
+}
+
+// The line that has so many columns and hides a range, at the front of the output.
+pub fn shown_into(
+    r: Record,
+    text: &[u8],
+    types: &[u8],
+    boundaries: &[u8],
+    char_pos: &[u16],
+    byte_pos: &[u16],
+    row_ends: &[u16],
+    tag_ends: &[u16],
+    tag_bytes: &[u8],
+    columns: usize,
+    start: usize,
+    end: usize,
+    out: &mut [u8],
+) -> usize
+    requires { ⌜ Sheet r (buffers (now text) (now types) (now boundaries) (now «char_pos») (now «byte_pos») (now «row_ends») (now «tag_ends») (now «tag_bytes»)) × (start ≤ end) × (end ≤ r .n) × (length (written partial (shownOf columns start end (spell r (buffers (now text) (now types) (now boundaries) (now «char_pos») (now «byte_pos») (now «row_ends») (now «tag_ends») (now «tag_bytes»))))) ≤ length (now out)) ⌝ }
+    ensures { λ a. ⌜ Lined (written partial (shownOf columns start end (spell r (buffers (now (text .entry)) (now (types .entry)) (now (boundaries .entry)) (now («char_pos» .entry)) (now («byte_pos» .entry)) (now («row_ends» .entry)) (now («tag_ends» .entry)) (now («tag_bytes» .entry)))))) (now (out .entry)) (now (out .exit)) a ⌝ }
+{
+    let last = r.n - 1;
+    if start == end {
+        return rest_into(
+            text,
+            boundaries,
+            char_pos,
+            row_ends,
+            tag_ends,
+            tag_bytes,
+            columns,
+            0,
+            last,
+            out,
+            0,
+        );
+    }
+    let n = before_into(
+        text,
+        boundaries,
+        char_pos,
+        row_ends,
+        tag_ends,
+        tag_bytes,
+        columns,
+        start,
+        out,
+    );
+    if end == r.n {
+        let k = covered_into(text, char_pos, start, last, out, n);
+        return bare_into(text, char_pos, last, columns, out, k);
+    }
+    let k = covered_into(text, char_pos, start, end, out, n);
+    rest_into(
+        text,
+        boundaries,
+        char_pos,
+        row_ends,
+        tag_ends,
+        tag_bytes,
+        columns,
+        end,
+        last,
+        out,
+        k,
+    )
+}
+
+// How long the line of the whole sentence is, where there is less room, and else 0.
 pub fn partial_short(
     r: Record,
     text: &[u8],
@@ -121,10 +535,7 @@ pub fn partial_short(
     requires { ⌜ Sheet r (buffers (now text) (now types) (now boundaries) (now «char_pos») (now «byte_pos») (now «row_ends») (now «tag_ends») (now «tag_bytes»)) ⌝ }
     ensures { λ a. ⌜ a ≡ shortOf room (length (written partial (spell r (buffers (now (text .entry)) (now (types .entry)) (now (boundaries .entry)) (now («char_pos» .entry)) (now («byte_pos» .entry)) (now («row_ends» .entry)) (now («tag_ends» .entry)) (now («tag_bytes» .entry)))))) ⌝ }
 {
-    if most(r) <= room {
-        return 0;
-    }
-    let needed = partial_len(
+    shown_short(
         r,
         text,
         types,
@@ -134,14 +545,14 @@ pub fn partial_short(
         row_ends,
         tag_ends,
         tag_bytes,
-    );
-    if room < needed {
-        return needed;
-    }
-    0
+        r.columns,
+        0,
+        0,
+        room,
+    )
 }
 
-// The line, at the front of the output.
+// The line of the whole sentence, at the front of the output.
 pub fn partial_into(
     r: Record,
     text: &[u8],
@@ -157,36 +568,19 @@ pub fn partial_into(
     requires { ⌜ Sheet r (buffers (now text) (now types) (now boundaries) (now «char_pos») (now «byte_pos») (now «row_ends») (now «tag_ends») (now «tag_bytes»)) × (length (written partial (spell r (buffers (now text) (now types) (now boundaries) (now «char_pos») (now «byte_pos») (now «row_ends») (now «tag_ends») (now «tag_bytes»)))) ≤ length (now out)) ⌝ }
     ensures { λ a. ⌜ Lined (written partial (spell r (buffers (now (text .entry)) (now (types .entry)) (now (boundaries .entry)) (now («char_pos» .entry)) (now («byte_pos» .entry)) (now («row_ends» .entry)) (now («tag_ends» .entry)) (now («tag_bytes» .entry))))) (now (out .entry)) (now (out .exit)) a ⌝ }
 {
-    let last = r.n - 1;
-    let mut at = 0;
-    let mut i = 0;
-    while i < last {
-        let m = boundaries[i];
-        let width = columns_before(m, r.columns);
-        at = char_into(
-            text,
-            char_pos,
-            row_ends,
-            tag_ends,
-            tag_bytes,
-            i,
-            width,
-            out,
-            at,
-        );
-        out[at] = sign_of(m);
-        at += 1;
-        i += 1;
-    }
-    char_into(
+    shown_into(
+        r,
         text,
+        types,
+        boundaries,
         char_pos,
+        byte_pos,
         row_ends,
         tag_ends,
         tag_bytes,
-        last,
         r.columns,
+        0,
+        0,
         out,
-        at,
     )
 }

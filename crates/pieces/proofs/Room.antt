@@ -7,16 +7,18 @@ use native.Mathlib.Nat.{mul-le-mul}
 use native.Mathlib.Omega.{arith}
 use borrow.Author.Tests.{lt-ltb, le-ltb, ltb-true, ltb-false}
 use lib.Dec.{ltb}
-use lib.ListN.{length, replicate, length-append}
+use lib.ListN.{length, replicate, length-append, length-replicate}
 use Rattle.laws.specs.If.{if_then_else_}
 use Rattle.utf8.specs.Utf8.{encodes}
-use Rattle.sentence.specs.Sentence.{Tag, Sentence, pad}
+use Rattle.sentence.specs.Sentence.{Tag, Sentence, pad, rowBytes}
 use Rattle.sentence.specs.Reading.{Form}
 use Rattle.sentence.specs.Writing.{escape, writeTags}
 use Rattle.sentence.proofs.Trips.{escape-append, pad-length}
 use Rattle.sheet.specs.declared.Record.{Record}
 use Rattle.sheet.specs.Layout.{Buffers, bytesOf, Holds}
+use Rattle.sheet.proofs.Held.{length-bytesOf}
 use Rattle.sheet.proofs.Look.{bounds}
+use Rattle.escape.proofs.Bytes.{escape-long}
 use Rattle.escape.proofs.Encoded.{encodes-tags}
 use Rattle.pieces.specs.Pieces.{mostOf, Limited, shortOf}
 
@@ -49,6 +51,12 @@ bytes-absent (t ∷ r) k = rw (bytes-absent r k)
 pub padded-long : (f : Form) (n : ℕ) (r : List Tag) → length r ≤ n → length (encodes (writeTags f (pad n r))) ≡ n + length (escape f (bytesOf r))
 unfolding pad
 padded-long f n r h = tags-long f (pad n r) ∙ rw (bytes-absent r (n - length r)) (omega (arith, pad-length n r h))
+
+-- and no longer than with c columns and every byte escaped
+pub row-most : (f : Form) (n c : ℕ) (r : List Tag) → n ≤ c → length r ≤ c → length (encodes (writeTags f (pad n r))) ≤ c + 2 * rowBytes r
+unfolding pad
+row-most f n c r h l =
+    omega (arith, tags-long f (pad n r), ap (λ (bs : List ℕ). length (escape f bs)) (bytes-absent r (n - length r)), escape-long f (bytesOf r), length-bytesOf r, length-append r (replicate (n - length r) []), length-replicate {A = Tag} (n - length r) [])
 
 -- ---- too little room: there is enough by the bound, or by the length, or there is not
 module _ (room n : ℕ) where

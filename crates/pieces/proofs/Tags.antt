@@ -92,6 +92,22 @@ module _ (f : Form) (n : ℕ) (rs es d : List ℕ) (i k e : ℕ) (a : k ≡ edge
     pub row-full : n ≤ e - k → Wrote o₀ i₀ (rowLine f n (rowAt rs es d i)) o₁ i₁
     row-full h = let z : n - (e - k) ≡ 0 = omega arith in rw (row-split, z, append-nil) v
 
+-- ---- two parts one after the other
+module _ (vs ws : List ℕ) (out : List ℕ) (at : ℕ) (r : at + length (vs ++ ws) ≤ length out) where
+  pub first-fits : at + length vs ≤ length out
+  first-fits = omega (arith, length-append vs ws)
+
+  pub then-fits : {out′ : List ℕ} {m : ℕ} → Wrote out at vs out′ m → m + length ws ≤ length out′
+  then-fits w = omega (arith, length-append vs ws, w .end, wrote-long w)
+
+-- ---- the text of characters b up to e
+module _ (ps text : List ℕ) (b e x y : ℕ) (a : x ≡ getD ps b 0) (z : y ≡ getD ps e 0) where
+  pub text-asks : (at : ℕ) (out : List ℕ) → TextLies ps text b e → at + length (textAt ps text b e) ≤ length out → (x ≤ y) × (y ≤ length text) × (at + length (drop x (take y text)) ≤ length out)
+  text-asks at out h r = (omega (arith, h .rises), omega (arith, h .within), rw (a, z) r)
+
+  pub text-wrote : {o₀ o₁ : List ℕ} {i₀ i₁ : ℕ} → Wrote o₀ i₀ (drop x (take y text)) o₁ i₁ → Wrote o₀ i₀ (textAt ps text b e) o₁ i₁
+  text-wrote w = rw (← a, ← z) w
+
 -- ---- the text of characters b up to e, copied by F, and then a row that is written as `ws`
 module _ (F : List ℕ → List ℕ) (ps text : List ℕ) (b e x y : ℕ) (a : x ≡ getD ps b 0) (z : y ≡ getD ps e 0) (ws : List ℕ) where
   module _ (out : List ℕ) (at : ℕ) (r : at + length (F (textAt ps text b e) ++ ws) ≤ length out) where

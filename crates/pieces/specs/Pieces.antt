@@ -23,6 +23,14 @@ piecesAt es d k (suc n) = pieceAt es d k ∷ piecesAt es d (k + 1) n
 unfoldable pub rowAt : List ℕ → List ℕ → List ℕ → ℕ → List Tag
 rowAt rs es d i = piecesAt es d (edge rs i) (getD rs i 0 - edge rs i)
 
+-- how many tags the i-th row lists
+abbrev pub countAt : List ℕ → ℕ → ℕ
+countAt rs i = getD rs i 0 - edge rs i
+
+-- how many tag bytes stand before the i-th row
+abbrev pub bytesTo : List ℕ → List ℕ → ℕ → ℕ
+bytesTo rs es i = edge es (edge rs i)
+
 -- what is written of a row: its tags, and absent ones up to n columns
 abbrev pub rowLine : Form → ℕ → List Tag → List ℕ
 rowLine f n r = writeTags f (pad n r)

@@ -13,7 +13,7 @@ ghost use Rattle.sentence.specs.Writing.{writeTags};
 ghost use Rattle.lookups.specs.Answers.{edge};
 ghost use Rattle.escape.specs.Escape.{formOf};
 ghost use Rattle.escape.specs.Wrote.{Wrote};
-ghost use Rattle.pieces.specs.Pieces.{piecesAt, rowAt, rowLine, Lie, RowLies, TextLies, charLine, tokenLine, Limited, mostOf};
+ghost use Rattle.pieces.specs.Pieces.{piecesAt, rowAt, countAt, bytesTo, rowLine, Lie, RowLies, TextLies, textAt, charLine, tokenLine, Limited, mostOf};
 
 // A position or an end as a number of bytes.
 pub fn wide(x: u16) -> usize
@@ -72,7 +72,44 @@ fn row_into(
     n
 }
 
-// The i-th character as the partial form writes it, with its tags.
+// How many tags the i-th row lists.
+pub fn row_count(row_ends: &[u16], i: usize) -> usize
+    requires { ⌜ (i < length (now «row_ends»)) × (edge (now «row_ends») i ≤ getD (now «row_ends») i 0) ⌝ }
+    ensures { λ r. ⌜ r ≡ countAt (now («row_ends» .entry)) i ⌝ }
+{
+    let end = wide(row_ends[i]);
+    end - edge(row_ends, i)
+}
+
+// How many tag bytes stand before the i-th row.
+pub fn bytes_before(row_ends: &[u16], tag_ends: &[u16], i: usize) -> usize
+    requires { ⌜ (i ≤ length (now «row_ends»)) × (edge (now «row_ends») i ≤ length (now «tag_ends»)) ⌝ }
+    ensures { λ r. ⌜ r ≡ bytesTo (now («row_ends» .entry)) (now («tag_ends» .entry)) i ⌝ }
+{
+    edge(tag_ends, edge(row_ends, i))
+}
+
+// The i-th character alone.
+pub fn text_into(text: &[u8], char_pos: &[u16], i: usize, out: &mut [u8], at: usize) -> usize
+    requires { ⌜ TextLies (now «char_pos») (now text) i (i + 1) × (at + length (textAt (now «char_pos») (now text) i (i + 1)) ≤ length (now out)) ⌝ }
+    ensures { λ r. ⌜ Wrote (now (out .entry)) at (textAt (now («char_pos» .entry)) (now (text .entry)) i (i + 1)) (now (out .exit)) r ⌝ }
+{
+    let from = wide(char_pos[i]);
+    let to = wide(char_pos[i + 1]);
+    copy(text, from, to, out, at)
+}
+
+// How many bytes the characters from `b` up to `e` take.
+pub fn text_len(char_pos: &[u16], b: usize, e: usize) -> usize
+    requires { ⌜ (b < length (now «char_pos»)) × (e < length (now «char_pos»)) × (getD (now «char_pos») b 0 ≤ getD (now «char_pos») e 0) ⌝ }
+    ensures { λ r. ⌜ r ≡ getD (now («char_pos» .entry)) e 0 - getD (now («char_pos» .entry)) b 0 ⌝ }
+{
+    let from = wide(char_pos[b]);
+    let to = wide(char_pos[e]);
+    to - from
+}
+
+// The i-th character as the partial form writes it, with its tags, for a loop over characters.
 pub fn char_into(
     text: &[u8],
     char_pos: &[u16],
@@ -90,6 +127,25 @@ pub fn char_into(
     let from = wide(char_pos[i]);
     let to = wide(char_pos[i + 1]);
     let n = copy(text, from, to, out, at);
+    row_into(true, row_ends, tag_ends, tag_bytes, i, columns, out, n)
+}
+
+// The same for a character outside a loop, so that the loop's call, being the only one, is compiled into the loop.
+pub fn char_apart(
+    text: &[u8],
+    char_pos: &[u16],
+    row_ends: &[u16],
+    tag_ends: &[u16],
+    tag_bytes: &[u8],
+    i: usize,
+    columns: usize,
+    out: &mut [u8],
+    at: usize,
+) -> usize
+    requires { ⌜ TextLies (now «char_pos») (now text) i (i + 1) × RowLies (now «row_ends») (now «tag_ends») (now «tag_bytes») i × (at + length (charLine columns (now text) (now «char_pos») (now «row_ends») (now «tag_ends») (now «tag_bytes») i) ≤ length (now out)) ⌝ }
+    ensures { λ r. ⌜ Wrote (now (out .entry)) at (charLine columns (now (text .entry)) (now («char_pos» .entry)) (now («row_ends» .entry)) (now («tag_ends» .entry)) (now («tag_bytes» .entry)) i) (now (out .exit)) r ⌝ }
+{
+    let n = text_into(text, char_pos, i, out, at);
     row_into(true, row_ends, tag_ends, tag_bytes, i, columns, out, n)
 }
 

@@ -1,2 +1,4 @@
--- `Laws` has the answers of the writers; a writer's outcome is the only one, and what a caller has of a line that was written.
+-- `Laws` has the answers of the writers; a writer's outcome is the only one, and what a caller has of a line that was written. `Withheld` has the same
+-- of the withheld copy.
 pub mod Laws
+pub mod Withheld

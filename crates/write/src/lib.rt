@@ -1,6 +1,10 @@
-// The writers of any sheet: each answers the length of the line that it wrote at the front of the output, or 13, or 12 at the length needed.
+// The writers of any sheet: each answers the length of the line that it wrote at the front of the output, or 13, or 12 at the length needed; with a
+// range 14 at its start comes between.
+use partial::given::columns_shown;
 use partial::given::partial_into;
 use partial::given::partial_short;
+use partial::given::shown_into;
+use partial::given::shown_short;
 use sentence::Refusal;
 use sheet::Number;
 use sheet::Record;
@@ -11,7 +15,7 @@ ghost use Rattle.sentence.specs.Reading.{tokenized, partial};
 ghost use Rattle.sentence.specs.Refusals.{refusal};
 ghost use Rattle.sheet.specs.declared.Number.the-variants.{Refused};
 ghost use Rattle.sheet.specs.Layout.{buffers};
-ghost use Rattle.write.specs.Answers.{Written};
+ghost use Rattle.write.specs.Answers.{noRange, Written, Withholds};
 
 // 13: the record and the buffers are no sheet.
 fn no_sheet() -> Number
@@ -31,6 +35,26 @@ fn too_short(needed: usize) -> Number
         number: 12,
         place: needed,
     })
+}
+
+// 14: the range is none of the sentence's; its start is the place.
+fn out_of_range(start: usize) -> Number
+    ensures { λ a. ⌜ a ≡ Refused (refusal 14 start) ⌝ }
+{
+    Number::Refused(Refusal {
+        number: 14,
+        place: start,
+    })
+}
+
+// Whether a range is none of n characters: its start is past its end, or its end past them.
+fn no_range(start: usize, end: usize, n: usize) -> bool
+    ensures { λ a. ⌜ a ≡ noRange start end n ⌝ }
+{
+    if end < start {
+        return true;
+    }
+    n < end
 }
 
 // The tokens, joined by one space, each with all columns of its last character.
@@ -145,6 +169,88 @@ pub fn write_partial_annotation_text(
         row_ends,
         tag_ends,
         tag_bytes,
+        out,
+    );
+    Number::Is(n)
+}
+
+// The partial line with every label of the characters from `start` up to `end` withheld, and only the columns that are in use outside them.
+pub fn write_withheld_text(
+    r: Record,
+    text: &[u8],
+    types: &[u8],
+    boundaries: &[u8],
+    char_pos: &[u16],
+    byte_pos: &[u16],
+    row_ends: &[u16],
+    tag_ends: &[u16],
+    tag_bytes: &[u8],
+    start: usize,
+    end: usize,
+    out: &mut [u8],
+) -> Number
+    ensures { λ a. ⌜ Withholds r (buffers (now (text .entry)) (now (types .entry)) (now (boundaries .entry)) (now («char_pos» .entry)) (now («byte_pos» .entry)) (now («row_ends» .entry)) (now («tag_ends» .entry)) (now («tag_bytes» .entry))) start end (now (out .entry)) a (now (out .exit)) ⌝ }
+{
+    if !sheet::check(
+        r,
+        text,
+        types,
+        boundaries,
+        char_pos,
+        byte_pos,
+        row_ends,
+        tag_ends,
+        tag_bytes,
+    ) {
+        return no_sheet();
+    }
+    if no_range(start, end, r.n) {
+        return out_of_range(start);
+    }
+    let columns = columns_shown(
+        r,
+        text,
+        types,
+        boundaries,
+        char_pos,
+        byte_pos,
+        row_ends,
+        tag_ends,
+        tag_bytes,
+        start,
+        end,
+    );
+    let needed = shown_short(
+        r,
+        text,
+        types,
+        boundaries,
+        char_pos,
+        byte_pos,
+        row_ends,
+        tag_ends,
+        tag_bytes,
+        columns,
+        start,
+        end,
+        out.len(),
+    );
+    if needed > 0 {
+        return too_short(needed);
+    }
+    let n = shown_into(
+        r,
+        text,
+        types,
+        boundaries,
+        char_pos,
+        byte_pos,
+        row_ends,
+        tag_ends,
+        tag_bytes,
+        columns,
+        start,
+        end,
         out,
     );
     Number::Is(n)

@@ -1,71 +1,53 @@
--- `partial::given::count_slashes` meets its contract. The invariant: with the slashes from the i-th character on, the sum is the whole. Assumes nothing.
+-- `partial::given::count_slashes` meets its contract. The invariant: the slashes from the i-th character on are left to count. Assumes nothing.
 use Prim.Native.Nat.{_-_}
-use mathlib.Core.Path.{_≡_, refl}
-use native.Mathlib.Omega.{arith}
+use Rattle.partial.specs.Line.{slashesOf}
+use Rattle.partial.proofs.Loops.{Slashing, slash-start, slash-reads, slash-asks, slash-word-fits, slash-word, slash-other-fits, slash-other, slash-done}
 use borrow.Author.Needs.{needs}
-use Rattle.sheet.specs.Layout.{buffers}
-use Rattle.sheet.proofs.Look.{bounds}
-use Rattle.partial.proofs.Count.{Slashing, slash-start, row-rises, row-few, slash-word, slash-other, slash-done}
 use Rattle.partial.proofs.given.count_slashes.Statement.{statement}
 use Rattle.partial.proofs.given.count_slashes.Tie as tie
 
 abbrev Inv-loop : tie.InvT-loop
-Inv-loop r text types boundaries char-pos byte-pos row-ends tag-ends tag-bytes last sum₀ k₀ i₀ sum k i =
-    Slashing r (buffers text types boundaries char-pos byte-pos row-ends tag-ends tag-bytes) sum k i × (last ≡ r .n - 1)
+Inv-loop boundaries row-ends tag-ends tag-bytes columns from upto sum₀ i₀ sum i =
+    Slashing boundaries row-ends tag-ends tag-bytes columns upto (slashesOf boundaries row-ends columns from (upto - from)) sum i
 
 abbrev μ-loop : tie.MeasureT-loop
-μ-loop r text types boundaries char-pos byte-pos row-ends tag-ends tag-bytes last sum₀ k₀ i₀ sum k i = last - i
-
-sub-last : tie.Need-sub-last Inv-loop μ-loop
-sub-last c = omega (arith, bounds (c .before .before .before .before .before .before .before .before .before .pre))
+μ-loop boundaries row-ends tag-ends tag-bytes columns from upto sum₀ i₀ sum i = upto - i
 
 loop-holds : tie.Need-loop-holds Inv-loop μ-loop
-loop-holds c = (slash-start (c .before .before .before .before .before .before .before .before .before .pre), refl)
-
-mul-wide : tie.Need-mul-wide Inv-loop μ-loop
-mul-wide c = search (slash-word, slash-other, slash-done, needs)
-
-shared-slice-read-wide : tie.Need-shared-slice-read-wide Inv-loop μ-loop
-shared-slice-read-wide c = search (slash-word, slash-other, slash-done, needs)
-
-wide-requires : tie.Need-wide-requires Inv-loop μ-loop
-wide-requires c κs = search (slash-word, slash-other, slash-done, needs)
+loop-holds c = search (slash-start, slash-reads, slash-asks, slash-word-fits, slash-word, slash-other-fits, slash-other, slash-done, needs)
 
 shared-slice-read-if1 : tie.Need-shared-slice-read-if1 Inv-loop μ-loop
-shared-slice-read-if1 c = search (slash-word, slash-other, slash-done, needs)
+shared-slice-read-if1 c = search (slash-start, slash-reads, slash-asks, slash-word-fits, slash-word, slash-other-fits, slash-other, slash-done, needs)
 
 add-sum : tie.Need-add-sum Inv-loop μ-loop
-add-sum c = search (slash-word, slash-other, slash-done, needs)
+add-sum c = search (slash-start, slash-reads, slash-asks, slash-word-fits, slash-word, slash-other-fits, slash-other, slash-done, needs)
 
 add-i : tie.Need-add-i Inv-loop μ-loop
-add-i c = search (slash-word, slash-other, slash-done, needs)
+add-i c = search (slash-start, slash-reads, slash-asks, slash-word-fits, slash-word, slash-other-fits, slash-other, slash-done, needs)
 
 loop-less : tie.Need-loop-less Inv-loop μ-loop
-loop-less c = search (slash-word, slash-other, slash-done, needs)
+loop-less c = search (slash-start, slash-reads, slash-asks, slash-word-fits, slash-word, slash-other-fits, slash-other, slash-done, needs)
 
 loop-again : tie.Need-loop-again Inv-loop μ-loop
-loop-again c = search (slash-word, slash-other, slash-done, needs)
+loop-again c = search (slash-start, slash-reads, slash-asks, slash-word-fits, slash-word, slash-other-fits, slash-other, slash-done, needs)
 
-sub-sum : tie.Need-sub-sum Inv-loop μ-loop
-sub-sum c = search (row-rises)
+row-count-requires : tie.Need-row-count-requires Inv-loop μ-loop
+row-count-requires c κs = slash-asks (c .before .before .before .loop .inv) (search needs)
 
 add-sum-2 : tie.Need-add-sum-2 Inv-loop μ-loop
-add-sum-2 c = omega (arith, row-few (c .before .before .before .before .before .loop .inv .0) (search needs) (c .before .before .wide .ensures))
+add-sum-2 c = search (slash-start, slash-reads, slash-asks, slash-word-fits, slash-word, slash-other-fits, slash-other, slash-done, needs)
 
 add-i-2 : tie.Need-add-i-2 Inv-loop μ-loop
-add-i-2 c = search (slash-word, slash-other, slash-done, needs)
+add-i-2 c = search (slash-start, slash-reads, slash-asks, slash-word-fits, slash-word, slash-other-fits, slash-other, slash-done, needs)
 
 loop-less-2 : tie.Need-loop-less-2 Inv-loop μ-loop
-loop-less-2 c = search (slash-word, slash-other, slash-done, needs)
+loop-less-2 c = search (slash-start, slash-reads, slash-asks, slash-word-fits, slash-word, slash-other-fits, slash-other, slash-done, needs)
 
 loop-again-2 : tie.Need-loop-again-2 Inv-loop μ-loop
-loop-again-2 c = search (slash-word, slash-other, slash-done, needs)
-
-add-result : tie.Need-add-result Inv-loop μ-loop
-add-result c = search (slash-word, slash-other, slash-done, needs)
+loop-again-2 c = search (slash-start, slash-reads, slash-asks, slash-word-fits, slash-word, slash-other-fits, slash-other, slash-done, needs)
 
 returns : tie.Need-returns Inv-loop μ-loop
-returns c = search (slash-word, slash-other, slash-done, needs)
+returns c = search (slash-start, slash-reads, slash-asks, slash-word-fits, slash-word, slash-other-fits, slash-other, slash-done, needs)
 
 pub count-slashes-spec : {M : Type 1} → statement M
 count-slashes-spec =
@@ -73,20 +55,15 @@ count-slashes-spec =
     (tie.spec
     Inv-loop
     μ-loop
-    sub-last
     loop-holds
-    mul-wide
-    shared-slice-read-wide
-    wide-requires
     shared-slice-read-if1
     add-sum
     add-i
     loop-less
     loop-again
-    sub-sum
+    row-count-requires
     add-sum-2
     add-i-2
     loop-less-2
     loop-again-2
-    add-result
     returns)
