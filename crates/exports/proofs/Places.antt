@@ -1,18 +1,19 @@
 -- The places of refusals are small, so that the host's numbers fit 64 bits. Assumes nothing.
-use Prim.Native.Nat.{ℕ, _^_, _≤_, _<_}
+use Prim.Native.Nat.{ℕ, _^_, _<_}
 use native.Mathlib.Omega.{arith}
 use mathlib.Core.Path.{_≡_, refl, sym, ap, _∙_}
 use mathlib.Core.Bool.{Bool, true, false, not, false≢true}
 use mathlib.Core.List.{List, []}
-use borrow.Author.Tests.{not-false}
+use borrow.Author.Tests.{lt-ltb, ltb-true, not-false}
 use lib.Dec.{ltb}
 use lib.ListN.{length}
-use Rattle.laws.specs.If.{if_then_else_, if-cases}
+use Rattle.laws.specs.If.{if_then_else_, if-true, if-cases}
 use Rattle.sentence.specs.declared.Refusal.{Refusal}
 use Rattle.sentence.specs.Sentence.{Sentence}
 use Rattle.sentence.specs.Reading.{Form, Result, sentence, refused, read}
+use Rattle.sentence.specs.Withheld.{trimmed, withheld}
 use Rattle.sentence.specs.Refusals.{refusal, verdict, readerOrder, hostOrder}
-use Rattle.sheet.specs.Layout.{Buffers, recordOf, spell}
+use Rattle.sheet.specs.Layout.{Buffers, recordOf, spell, Sheet}
 use Rattle.sheet.specs.Check.{isSheet}
 use Rattle.sheet.proofs.Exact.{is-sheet}
 use Rattle.sheet.specs.declared.Record.{Record}
@@ -21,7 +22,9 @@ use Rattle.sheet.specs.declared.Answer.the-variants as answer
 use Rattle.sheet.specs.declared.Number.{Number}
 use Rattle.sheet.specs.declared.Number.the-variants as number
 use Rattle.load.specs.Load.{lacks, readAnswer, ReadDoes}
-use Rattle.write.specs.Answers.{lineOf, writeOrder, Written}
+use Rattle.partial.proofs.Count.{line-few}
+use Rattle.partial.proofs.Widest.{columns-few}
+use Rattle.write.specs.Answers.{lineOf, writeOrder, Written, copyOf}
 use Rattle.tokens.specs.Steps.{nextOf}
 use Rattle.tokens.specs.declared.Next.{Next}
 use Rattle.tokens.specs.declared.Next.the-variants as next
@@ -30,7 +33,7 @@ use Rattle.passage.specs.declared.Converted.the-variants as converted
 use Rattle.convert.specs.Convert.{unknownForms, outOfRange, conversion}
 use Rattle.convert.proofs.Lengths.{written-small}
 use Rattle.convert.proofs.Codes.{small-place}
-use Rattle.exports.specs.Exports.{Near, noReader, NearAnswer, NearNumber, NearNext}
+use Rattle.exports.specs.Exports.{noReader, NearAnswer, NearNumber, nearest, nearestIn, NearNext}
 
 -- ---- a reader's: a conversion of the line is refused at the same place
 read-place : (f : ℕ) (x : List ℕ) (n p : ℕ) → noReader f ≡ false → read (formOf f) x ≡ refused n p → p < 2 ^ 32
@@ -64,6 +67,26 @@ near-written f r d {out} w =
 pub number-near : {a : Number} {q : Refusal} → NearNumber a → a ≡ number.Refused q → q .place < 2 ^ 32
 unfolding NearNumber
 number-near h e = rw e at h
+
+-- ---- a copy's
+nearest-near : (p : ℕ) → nearest p < 2 ^ 32
+unfolding nearest
+nearest-near p = if-cases (λ (n : ℕ). n < 2 ^ 32) (ltb p 4294967295) p 4294967295 (λ h. omega (arith, ltb-true p 4294967295 h)) (λ _. omega arith)
+
+nearest-small : (a : Number) → NearNumber (nearestIn a)
+unfolding NearNumber nearestIn
+nearest-small (number.Is n) = tt
+nearest-small (number.Refused q) = nearest-near (q .place)
+
+pub near-brought : (a : Number) {b : Number} → b ≡ nearestIn a → NearNumber b
+near-brought a e = rw e (nearest-small a)
+
+-- a length is held as it is
+pub nearest-length : {r : Record} {d : Buffers} (b e : ℕ) → Sheet r d → nearest (length (copyOf r d b e)) ≡ length (copyOf r d b e)
+unfolding withheld trimmed nearest
+nearest-length {r} {d} b e h =
+    let l = length (copyOf r d b e) in
+    if-true (ltb l 4294967295) l 4294967295 (lt-ltb l 4294967295 (omega (arith, line-few h _ b e (columns-few b e h))))
 
 -- ---- a step's
 pub near-next : (r : Record) (d : Buffers) (p : ℕ) {a : Next} → a ≡ nextOf r d p → NearNext a

@@ -2,25 +2,28 @@
 use Prim.Native.Nat.{ℕ, _≤_, _<_}
 use native.Mathlib.Omega.{arith}
 use mathlib.Core.Path.{_≡_, refl, sym, ap, _∙_}
-use mathlib.Core.Bool.{Bool, true, false, _||_, false≢true}
+use mathlib.Core.Bool.{Bool, true, false, not, _||_, false≢true}
 use mathlib.Core.List.{List, [], _∷_}
-use borrow.Author.Tests.{lt-ltb, le-ltb, eq-eqb}
+use borrow.Author.Tests.{lt-ltb, le-ltb, eq-eqb, not-false}
 use lib.Dec.{ltb}
 use lib.ListN.{length, set}
 use Rattle.laws.specs.If.{if_then_else_}
 use Rattle.laws.specs.Put.{over, put-front}
 use Rattle.sentence.specs.declared.Refusal.{Refusal}
+use Rattle.sentence.specs.Sentence.{count}
 use Rattle.sentence.specs.Reading.{Form, tokenized, partial, read}
-use Rattle.sentence.specs.Refusals.{refusal, verdict}
-use Rattle.sheet.specs.Layout.{Buffers}
+use Rattle.sentence.specs.Refusals.{refusal, verdict, sheetOrder}
+use Rattle.sheet.specs.Layout.{Buffers, spell}
+use Rattle.sheet.specs.Check.{isSheet}
+use Rattle.sheet.proofs.Exact.{is-sheet}
 use Rattle.sheet.specs.declared.Record.{Record}
 use Rattle.sheet.specs.declared.Answer.{Answer}
 use Rattle.sheet.specs.declared.Answer.the-variants as answer
 use Rattle.sheet.specs.declared.Number.{Number}
 use Rattle.sheet.specs.declared.Number.the-variants as number
-use Rattle.load.specs.Load.{readAnswer, readLeaves, ReadDoes}
+use Rattle.load.specs.Load.{readAnswer, ReadDoes}
 use Rattle.load.proofs.Ways.{same-self}
-use Rattle.write.specs.Answers.{lineOf, writeOrder, Written}
+use Rattle.write.specs.Answers.{Written, copyOf, noRange, withholdOrder, Withholds}
 use Rattle.tokens.specs.Steps.{nextOf}
 use Rattle.tokens.specs.declared.Token.{Token as Span}
 use Rattle.tokens.specs.declared.Step.{Step}
@@ -29,7 +32,8 @@ use Rattle.tokens.specs.declared.Next.{Next}
 use Rattle.tokens.specs.declared.Next.the-variants as next
 use Rattle.passage.specs.Between.{formOf}
 use Rattle.passage.proofs.Written.{is-partial}
-use Rattle.exports.specs.Exports.{refusalCode, noReader, numbersOf, readFirst, readCode, readNumbers, ReadTold, hostAnswer, hostLeaves, HostReads, noWriter, hostWriteOrder, numberCode, HostWrites, spanned, stepCode, stepSpan, Tells, HostSteps}
+use Rattle.exports.proofs.Places.{nearest-length}
+use Rattle.exports.specs.Exports.{refusalCode, noReader, numbersOf, readFirst, readCode, readNumbers, ReadTold, hostAnswer, hostLeaves, HostReads, noWriter, hostWriteOrder, numberCode, HostWrites, nearest, nearestIn, hostWithholdOrder, HostWithholds, spanned, stepCode, stepSpan, Tells, HostSteps}
 
 -- ---- reading
 pub stored : (r : Record) (ns : List ℕ) → 5 ≤ length ns → set (set (set (set (set ns 0 (r .n)) 1 (r .b)) 2 (r .columns)) 3 (r .k)) 4 (r .g) ≡ over (numbersOf r) ns
@@ -93,6 +97,32 @@ module _ (f : ℕ) (r : Record) (d : Buffers) (out : List ℕ) {b : Bool} (i : b
   pub writes-on : {a : Number} {c : ℕ} {out′ : List ℕ} → b ≡ false → Written (formOf f) r d out a out′ → c ≡ numberCode a → HostWrites f r d out c out′
   unfolding hostWriteOrder verdict if_then_else_
   writes-on h w q = record { answer-is = rw (sym i ∙ h) (q ∙ ap numberCode (w .answer-is)); out-is = rw (sym i ∙ h) (w .out-is) }
+
+-- ---- the withheld copy
+pub brought-length : {a : Number} {n : ℕ} → a ≡ number.Is n → number.Is n ≡ nearestIn a
+unfolding nearestIn
+brought-length e = rw e
+
+pub brought-refusal : {a : Number} {q : Refusal} {p : ℕ} → a ≡ number.Refused q → p ≡ nearest (q .place) → number.Refused (refusal (q .number) p) ≡ nearestIn a
+unfolding nearestIn
+brought-refusal e i = rw (e, i)
+
+-- an answer of the copy, brought near
+brought : (s t u : Bool) (b n : ℕ) → (s ≡ false → nearest n ≡ n)
+    → nearestIn (verdict number.Refused (sheetOrder s t b u n) (number.Is n)) ≡ verdict number.Refused (sheetOrder s t (nearest b) u n) (number.Is n)
+unfolding verdict nearest nearestIn if_then_else_
+brought true t u b n h = refl
+brought false true u b n h = refl
+brought false false true b n h = rw (h refl)
+brought false false false b n h = refl
+
+pub withholds : (r : Record) (d : Buffers) (b e : ℕ) (out : List ℕ) (a : Number) {n : Number} {c : ℕ} {out′ : List ℕ}
+    → Withholds r d b e out a out′ → n ≡ nearestIn a → c ≡ numberCode n → HostWithholds r d b e out c out′
+unfolding withholdOrder hostWithholdOrder verdict
+withholds r d b e out a w i q =
+    let n = length (copyOf r d b e) in
+    let near = brought (not (isSheet r d)) (noRange b e (count (spell r d))) (ltb (length out) n) b n (λ z. nearest-length b e (is-sheet r d (not-false _ z))) in
+    record { answer-is = q ∙ ap numberCode (i ∙ ap nearestIn (w .answer-is) ∙ near); out-is = w .out-is }
 
 -- ---- a step
 module _ (s : Step) (d : List ℕ) where

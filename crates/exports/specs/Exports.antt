@@ -1,15 +1,18 @@
 -- What the host's calls besides the conversion answer as one number, and what they leave in lent memory.
 use Prim.Native.Nat.{ℕ, _<_, _^_}
 use mathlib.Core.Path.{_≡_}
-use mathlib.Core.Bool.{Bool, _||_}
+use mathlib.Core.Bool.{Bool, not, _||_}
 use mathlib.Core.List.{List, [], _∷_}
 use lib.Dec.{eqb, ltb}
 use lib.ListN.{length}
+use Rattle.laws.specs.If.{if_then_else_}
 use Rattle.laws.specs.Put.{over}
+use Rattle.sentence.specs.Sentence.{count}
 use Rattle.sentence.specs.Reading.{read}
-use Rattle.sentence.specs.Refusals.{Check, check, verdict}
+use Rattle.sentence.specs.Refusals.{refusal, Check, check, verdict, sheetOrder}
 use Rattle.sentence.specs.declared.Refusal.{Refusal}
-use Rattle.sheet.specs.Layout.{Buffers}
+use Rattle.sheet.specs.Layout.{Buffers, spell}
+use Rattle.sheet.specs.Check.{isSheet}
 use Rattle.sheet.specs.declared.Record.{Record}
 use Rattle.sheet.specs.declared.Answer.{Answer}
 use Rattle.sheet.specs.declared.Answer.the-variants as answer
@@ -17,7 +20,7 @@ use Rattle.sheet.specs.declared.Number.{Number}
 use Rattle.sheet.specs.declared.Number.the-variants as number
 use Rattle.fill.specs.Fill.{Same}
 use Rattle.load.specs.Load.{readAnswer, readLeaves}
-use Rattle.write.specs.Answers.{lineOf, writeOrder}
+use Rattle.write.specs.Answers.{lineOf, writeOrder, copyOf, noRange}
 use Rattle.tokens.specs.Steps.{nextOf}
 use Rattle.tokens.specs.declared.Step.{Step}
 use Rattle.tokens.specs.declared.Step.the-variants.{Serves, Done}
@@ -109,6 +112,25 @@ NearNumber (number.Refused q) = Near q
 pub record HostWrites (f : ℕ) (r : Record) (d : Buffers) (out : List ℕ) (a : ℕ) (out′ : List ℕ) : Type 0 where
   pub answer-is : a ≡ numberCode (verdict number.Refused (hostWriteOrder f r d (length out)) (number.Is (length (lineOf (formOf f) r d))))
   pub out-is : out′ ≡ verdict (λ (q : Refusal). out) (hostWriteOrder f r d (length out)) (over (lineOf (formOf f) r d) out)
+
+-- ---- the withheld copy
+-- a place as the host's number holds it: 2^32 - 1 stands for every place from there on
+unfoldable pub nearest : ℕ → ℕ
+nearest p = if ltb p 4294967295 then p else 4294967295
+
+-- an answer with its refusal at such a place
+unfoldable pub nearestIn : Number → Number
+nearestIn (number.Is n) = number.Is n
+nearestIn (number.Refused q) = number.Refused (refusal (q .number) (nearest (q .place)))
+
+-- 13, then 14 at the range's start as it is held, then 12 at the bytes needed
+unfoldable pub hostWithholdOrder : Record → Buffers → ℕ → ℕ → ℕ → List Check
+hostWithholdOrder r d b e room = sheetOrder (not (isSheet r d)) (noRange b e (count (spell r d))) (nearest b) (ltb room (length (copyOf r d b e))) (length (copyOf r d b e))
+
+-- the number a, and the output after it: the copy's line stands over its front; a refusal alters nothing
+pub record HostWithholds (r : Record) (d : Buffers) (b e : ℕ) (out : List ℕ) (a : ℕ) (out′ : List ℕ) : Type 0 where
+  pub answer-is : a ≡ numberCode (verdict number.Refused (hostWithholdOrder r d b e (length out)) (number.Is (length (copyOf r d b e))))
+  pub out-is : out′ ≡ verdict (λ (q : Refusal). out) (hostWithholdOrder r d b e (length out)) (over (copyOf r d b e) out)
 
 -- ---- a step of the token cursor
 -- where the step itself is not refused: 14 for a span of fewer numbers than two

@@ -1,5 +1,5 @@
-// The host's calls besides the conversion: a line read into lent buffers, a sheet written, a step of the token cursor. Each answers one number; a
-// refusal is 2^63 plus 256 times its place plus its number.
+// The host's calls besides the conversion: a line read into lent buffers, a sheet written, its withheld copy, a step of the token cursor. Each answers
+// one number; a refusal is 2^63 plus 256 times its place plus its number.
 use reader::Form;
 use sentence::Refusal;
 use sheet::Answer;
@@ -17,7 +17,7 @@ ghost use Rattle.reader.specs.Flags as flags;
 ghost use Rattle.tokens.specs.declared.Next.the-variants.{Is};
 ghost use Rattle.passage.specs.Between.{formOf};
 ghost use Rattle.write.specs.Answers.{Written};
-ghost use Rattle.exports.specs.Exports.{refusalCode, Near, noReader, numbersOf, ReadTold, NearAnswer, HostReads, recordIn, noWriter, numberCode, NearNumber, HostWrites, Tells, NearNext, HostSteps};
+ghost use Rattle.exports.specs.Exports.{refusalCode, Near, noReader, numbersOf, ReadTold, NearAnswer, HostReads, recordIn, noWriter, numberCode, NearNumber, HostWrites, nearest, nearestIn, HostWithholds, Tells, NearNext, HostSteps};
 
 // A refusal as one number.
 fn code(r: Refusal) -> u64
@@ -228,6 +228,75 @@ pub extern "C" fn ighdelmur_write(
         out,
     );
     tell_number(answer)
+}
+
+// A place as the host's number holds it: 2^32 - 1 stands for every place from there on.
+fn nearest(place: usize) -> usize
+    ensures { λ p. ⌜ p ≡ nearest place ⌝ }
+{
+    if place < 4294967295 {
+        return place;
+    }
+    4294967295
+}
+
+// An answer with its refusal at such a place.
+fn nearest_in(answer: Number) -> Number
+    ensures { λ a. ⌜ a ≡ nearestIn answer ⌝ }
+{
+    match answer {
+        Number::Is(n) => Number::Is(n),
+        Number::Refused(q) => Number::Refused(Refusal {
+            number: q.number,
+            place: nearest(q.place),
+        }),
+    }
+}
+
+// Writes the partial line of a sheet with the labels of the characters from `start` up to `end` withheld at the front of the output: the line's
+// length. 13 at 0 is the first refusal, then 14 at the start, then 12 at the length; a start from 2^32 - 1 on is told as 2^32 - 1.
+#[no_mangle]
+pub extern "C" fn ighdelmur_withhold(
+    n: usize,
+    b: usize,
+    columns: usize,
+    k: usize,
+    g: usize,
+    text: &[u8],
+    types: &[u8],
+    boundaries: &[u8],
+    char_pos: &[u16],
+    byte_pos: &[u16],
+    row_ends: &[u16],
+    tag_ends: &[u16],
+    tag_bytes: &[u8],
+    start: usize,
+    end: usize,
+    out: &mut [u8],
+) -> u64
+    ensures { λ a. ⌜ HostWithholds (recordIn n b columns k g) (buffers (now (text .entry)) (now (types .entry)) (now (boundaries .entry)) (now («char_pos» .entry)) (now («byte_pos» .entry)) (now («row_ends» .entry)) (now («tag_ends» .entry)) (now («tag_bytes» .entry))) start end (now (out .entry)) a (now (out .exit)) ⌝ }
+{
+    let answer = write::write_withheld_text(
+        Record {
+            n,
+            b,
+            columns,
+            k,
+            g,
+        },
+        text,
+        types,
+        boundaries,
+        char_pos,
+        byte_pos,
+        row_ends,
+        tag_ends,
+        tag_bytes,
+        start,
+        end,
+        out,
+    );
+    tell_number(nearest_in(answer))
 }
 
 // Tells a step: 1 and the token's start and end, or 0 and where the cursor stands; 14 for a span of fewer numbers than two.
