@@ -1,0 +1,92 @@
+"""Makes `stdout` of `hiding` from its `stdin`; with --check tells whether it is what stands there.
+
+    python3 crates/hiding/expected.py            writes crates/hiding/stdout
+    python3 crates/hiding/expected.py --check    status 1 where it differs
+
+The answers come from reading.py, which was written from documents 01 and 02 alone. Nothing is taken from what the program printed.
+The header of src/main.rt says what a question is; questions.py writes them.
+"""
+import sys
+from pathlib import Path
+
+HERE = Path(__file__).resolve().parent
+sys.dont_write_bytecode = True
+sys.path.insert(0, str(HERE))
+from reading import Sentence, copy_of, read_line  # noqa: E402
+from reference import lay, record  # noqa: E402
+
+MOST_COLUMNS = 4096
+RECORD = "NBCKG"
+
+
+def bytes_of(field):
+    """The bytes of a line's field: pieces of hex, joined by commas, each as often as is told."""
+    line = b""
+    for piece in field.split(","):
+        digits, _, count = piece.partition("*")
+        line += bytes.fromhex(digits) * int(count or 1)
+    return line
+
+
+def number(field):
+    """A number; behind ~ it is counted down from the largest."""
+    return 2**64 - 1 - int(field[1:]) if field.startswith("~") else int(field)
+
+
+def is_sheet(sentence, letter, index, value):
+    """Whether record and buffers are a sentence still: all numbers but the columns follow from the buffers."""
+    if letter == "L":
+        return len(lay(sentence)[index]) <= value
+    if letter == "C":
+        return max(len(row) for row in sentence.rows) <= value <= MOST_COLUMNS
+    return letter == "-" or record(sentence)[RECORD.index(letter)] == value
+
+
+def one(sentence, start, end, room, letter, index, value):
+    """The answer for one copy: 13 first."""
+    if not is_sheet(sentence, letter, number(index), number(value)):
+        return 13, 0
+    return copy_of(sentence, number(start), number(end), number(room))
+
+
+def every(sentence, room):
+    """The answers for every range from 0 to one past the characters."""
+    numbers = range(len(sentence.chars) + 2)
+    return [copy_of(sentence, start, end, room) for start in numbers for end in numbers]
+
+
+def shown(answer):
+    """An answer as it is printed."""
+    return f"={answer.hex()}" if isinstance(answer, bytes) else "!{},{}".format(*answer)
+
+
+def answered(question):
+    """A question with its answers."""
+    kind, form, field, *asked = question.split(" ")
+    sentence = read_line(bytes_of(field), form)
+    if not isinstance(sentence, Sentence):
+        answers = [sentence]
+    elif kind == "A":
+        answers = every(sentence, number(asked[0]))
+    else:
+        answers = [one(sentence, *asked)]
+    return " ".join([question, *map(shown, answers)]), len(answers)
+
+
+def main():
+    lines = (HERE / "stdin").read_text().splitlines()
+    made = [(line, 0) if line.startswith("#") else answered(line) for line in lines]
+    text = "".join(line + "\n" for line, _ in made)
+    if sys.argv[1:] != ["--check"]:
+        (HERE / "stdout").write_text(text)
+    elif (HERE / "stdout").read_text() != text:
+        stands = (HERE / "stdout").read_text().splitlines()
+        for (ours, _), theirs in zip(made, stands):
+            if ours != theirs:
+                print(f"reading.py: {ours}\n    stdout: {theirs}"[:2000])
+        sys.exit("crates/hiding/stdout is not what expected.py makes of stdin")
+    print(f"{sum(count > 0 for _, count in made)} questions, {sum(count for _, count in made)} copies")
+
+
+if __name__ == "__main__":
+    main()
