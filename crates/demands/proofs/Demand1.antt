@@ -21,7 +21,7 @@ use Rattle.utf8.proofs.Codec.{valid-within, encode-decode, length-encode, lengt
 use Rattle.types.specs.declared.ranges.Row.{Row}
 use Rattle.types.specs.TypeOf.{find, ranges, typeOf}
 use Rattle.sentence.specs.declared.Refusal.{Refusal}
-use Rattle.sentence.specs.Sentence.{Mark, word, Sentence}
+use Rattle.sentence.specs.Sentence.{Mark, word, Sentence, count}
 use Rattle.sentence.specs.Reading.{Form, raw, tokenized, partial, Kind, mark, slash, back, plain, kind, Place, start, behind, inTag, gap, State, at, escaped, Act, skip, letter, opens, ofTag, Step, go, stop, ordinary, inside, opening, step, advance, Run, whole, stopped, unfinished, ending, finish, push, follow, run, over, next, Parsed, parsed, add, gather, Result, sentence, refused, built, placed, read}
 use Rattle.sentence.specs.Writing.{written, blank}
 use Rattle.sentence.specs.Refusals.{refusal, Check, check, verdict, sheetOrder, readerOrder, updateOrder, hostOrder}
@@ -46,15 +46,15 @@ use Rattle.tokens.specs.declared.Next.{Next}
 use Rattle.tokens.specs.declared.Next.the-variants as step-answer
 use Rattle.tokens.specs.declared.Token.{Token}
 use Rattle.tokens.specs.Steps.{spanOf, tokensOf, nextOf, listOrder, countOf, Listed}
-use Rattle.write.specs.Answers.{lineOf, writeOrder, Written}
+use Rattle.write.specs.Answers.{lineOf, writeOrder, Written, copyOf, noRange, withholdOrder, Withholds}
 use Rattle.passage.specs.declared.Converted.{Converted}
 use Rattle.passage.specs.Between.{Outcome, writes, formOf, between, answerOf, outputOf, Converts}
 use Rattle.passage.specs.Between.{refuses as no-line}
 use Rattle.convert.specs.Convert.{unknownForms, outOfRange, conversion, codeOf}
-use Rattle.exports.specs.Exports.{noReader, readFirst, readCode, readNumbers, hostAnswer, hostLeaves, HostReads, hostWriteOrder, numberCode, HostWrites, spanned, stepCode, stepSpan, HostSteps}
+use Rattle.exports.specs.Exports.{noReader, readFirst, readCode, readNumbers, hostAnswer, hostLeaves, HostReads, hostWriteOrder, numberCode, HostWrites, nearest, hostWithholdOrder, HostWithholds, spanned, stepCode, stepSpan, HostSteps}
 use Rattle.respelling.proofs.Runs.{finished}
 use Rattle.respelling.proofs.Whole.{only-whole}
-use Rattle.demands.specs.Demand1.{Said, serves, refuses, ofAnswer, ofNumber, ofPart, ofNext, ofConverted, Allowed, exactly, allows, oneOf, Answers, Settled, Blanked, formRefusals, lineRefusals, readRefusals, updateRefusals, askRefusals, fillRefusals, passRefusals, convertRefusals, Stands, Demand1}
+use Rattle.demands.specs.Demand1.{Said, serves, refuses, ofAnswer, ofNumber, ofPart, ofNext, ofConverted, Allowed, exactly, allows, oneOf, Answers, Settled, Blanked, formRefusals, lineRefusals, readRefusals, updateRefusals, askRefusals, fillRefusals, copyRefusals, passRefusals, convertRefusals, Stands, Demand1}
 
 -- ---- one of the refusals
 eqb-self : (n : ℕ) → eqb n n ≡ true
@@ -95,6 +95,10 @@ sheet-13-14 bad out i = (λ e. refl, (λ e. rw (eqb-self i), (λ e. absurd (fals
 sheet-13-12 : (bad short : Bool) (p n : ℕ) → Each (fillRefusals n) (sheetOrder bad false p short n)
 unfolding oneOf allows
 sheet-13-12 bad short p n = (λ e. refl, (λ e. absurd (false≢true e), (λ e. rw (eqb-self n), tt)))
+
+sheet-13-14-12 : (bad out short : Bool) (p n : ℕ) → Each (copyRefusals p n) (sheetOrder bad out p short n)
+unfolding oneOf allows
+sheet-13-14-12 bad out short p n = (λ e. refl, (λ e. rw (eqb-self p), (λ e. rw (eqb-self n), tt)))
 
 sheet-13 : (bad : Bool) (p : ℕ) → Each (exactly 13 0 ∷ []) (sheetOrder bad false p false 0)
 unfolding oneOf allows
@@ -500,6 +504,14 @@ writer f r d out out′ a w =
     (settles ofNumber number.Refused tells-number (fillRefusals (length (lineOf f r d))) (writeOrder f r d (length out)) (number.Is (length (lineOf f r d))) out (put (lineOf f r d) out) (serves-number (length (lineOf f r d)))
     (sheet-13-12 (not (isSheet r d)) (ltb (length out) (length (lineOf f r d))) 0 (length (lineOf f r d))))
 
+withholds : (r : Record) (d : Buffers) (b e : ℕ) (out out′ : List ℕ) (a : Number) → Withholds r d b e out a out′
+    → Settled (copyRefusals b (length (copyOf r d b e))) (ofNumber a) out out′
+unfolding withholdOrder
+withholds r d b e out out′ a w =
+    rw (w .answer-is, w .out-is)
+    (settles ofNumber number.Refused tells-number (copyRefusals b (length (copyOf r d b e))) (withholdOrder r d b e (length out)) (number.Is (length (copyOf r d b e))) out (put (copyOf r d b e) out) (serves-number (length (copyOf r d b e)))
+    (sheet-13-14-12 (not (isSheet r d)) (noRange b e (count (spell r d))) (ltb (length out) (length (copyOf r d b e))) b (length (copyOf r d b e))))
+
 -- ---- the conversion
 module _ (reader writer : ℕ) (x out out′ : List ℕ) (place : ℕ) where
   abbrev refusals : List Allowed
@@ -694,6 +706,18 @@ host-writes f r d out out′ a w =
           (λ e. refl, (λ e. refl, (λ e. absurd (false≢true e), (λ e. rw (eqb-self n), tt))))),
     )
 
+host-withholds : (r : Record) (d : Buffers) (b e : ℕ) (out out′ : List ℕ) (a : ℕ) → HostWithholds r d b e out a out′
+    → (c : Number) × (a ≡ numberCode c) × Settled (copyRefusals (nearest b) (length (copyOf r d b e))) (ofNumber c) out out′
+unfolding hostWithholdOrder
+host-withholds r d b e out out′ a w =
+    let n = length (copyOf r d b e) in (
+      verdict number.Refused (hostWithholdOrder r d b e (length out)) (number.Is n),
+      w .answer-is,
+      rw (w .out-is)
+          (settles ofNumber number.Refused tells-number (copyRefusals (nearest b) n) (hostWithholdOrder r d b e (length out)) (number.Is n) out (put (copyOf r d b e) out) (serves-number n)
+          (sheet-13-14-12 (not (isSheet r d)) (noRange b e (count (spell r d))) (ltb (length out) n) (nearest b) n)),
+    )
+
 -- a step, told in a span with so much room
 spans : (s : Next) (span : List ℕ) (b : Bool) → ltb (length span) 2 ≡ b → Answers (exactly 13 0 ∷ []) (ofNext s)
     → Settled (exactly 13 0 ∷ exactly 14 0 ∷ []) (ofNext (spanned (length span) s)) span (stepSpan (spanned (length span) s) span)
@@ -724,6 +748,7 @@ demand-1 = record {
   write-tokenized-text = λ r d out out′ a w. writer tokenized r d out out′ a w;
   write-partial-annotation-text = λ r d out out′ a w. writer partial r d out out′ a w;
   note-key = λ r d out out′ a w. writer partial r d out out′ a w;
+  write-withheld-text = λ r d b e out out′ a w. withholds r d b e out out′ a w;
   next-token = λ r d p a e. rw e (stepped r d p);
   token-list = λ r d l l′ a w. lists r d l l′ a w;
   char-to-str-pos = λ r d i a e. rw e (char-pos (isSheet r d) (spell r d) i);
@@ -742,6 +767,7 @@ demand-1 = record {
   ighdelmur-convert = λ f g x out out′ p a w. converts-host f g x out out′ p a w;
   ighdelmur-read = λ f x d e ns ns′ a w. host-reads f x d ns e ns′ a w;
   ighdelmur-write = λ f r d out out′ a w. host-writes f r d out out′ a w;
+  ighdelmur-withhold = λ r d b e out out′ a w. host-withholds r d b e out out′ a w;
   ighdelmur-next-token = λ r d p span span′ a w. host-steps r d p span span′ a w;
   program-ends = λ room x w a h r g f. finished room h r g f;
   program-waits = λ room x w a h r f. (_, only-whole room h r f);

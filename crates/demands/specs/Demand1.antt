@@ -34,12 +34,12 @@ use Rattle.tokens.specs.declared.Token.{Token}
 use Rattle.tokens.specs.declared.Next.{Next}
 use Rattle.tokens.specs.declared.Next.the-variants as next
 use Rattle.tokens.specs.Steps.{tokensOf, nextOf, Listed}
-use Rattle.write.specs.Answers.{lineOf, Written}
+use Rattle.write.specs.Answers.{lineOf, Written, copyOf, Withholds}
 use Rattle.passage.specs.declared.Converted.{Converted}
 use Rattle.passage.specs.declared.Converted.the-variants as converted
 use Rattle.passage.specs.Between.{formOf, Converts}
 use Rattle.convert.specs.Convert.{conversion, codeOf}
-use Rattle.exports.specs.Exports.{readCode, HostReads, numberCode, HostWrites, stepCode, HostSteps}
+use Rattle.exports.specs.Exports.{readCode, HostReads, numberCode, HostWrites, nearest, HostWithholds, stepCode, HostSteps}
 use Rattle.respelling.specs.Respell.{respell, whole}
 use Rattle.respelling.specs.Run.{State, Run, goes}
 
@@ -129,6 +129,10 @@ askRefusals first = exactly 13 0 ∷ exactly 14 first ∷ []
 abbrev pub fillRefusals : ℕ → List Allowed
 fillRefusals need = exactly 13 0 ∷ exactly 12 need ∷ []
 
+-- a call that writes a copy of a range refuses by 13, by 14 at the range's start, or by 12 at the length needed
+abbrev pub copyRefusals : ℕ → ℕ → List Allowed
+copyRefusals first need = exactly 13 0 ∷ exactly 14 first ∷ exactly 12 need ∷ []
+
 -- a line that is refused, or is written in a form, which 12 refuses at the length needed
 unfoldable pub passRefusals : Form → Form → List ℕ → Result → List Allowed
 passRefusals f g x (sentence s) = exactly 12 (needed g s) ∷ []
@@ -166,6 +170,9 @@ pub record Demand1 : Type 0 where
       → Settled (fillRefusals (length (lineOf partial r d))) (ofNumber a) out out′
   pub note-key : (r : Record) (d : Buffers) (out out′ : List ℕ) (a : Number) → Written partial r d out a out′
       → Settled (fillRefusals (length (lineOf partial r d))) (ofNumber a) out out′
+  -- the withheld copy
+  pub write-withheld-text : (r : Record) (d : Buffers) (b e : ℕ) (out out′ : List ℕ) (a : Number) → Withholds r d b e out a out′
+      → Settled (copyRefusals b (length (copyOf r d b e))) (ofNumber a) out out′
   -- the token cursor and the token list
   pub next-token : (r : Record) (d : Buffers) (p : ℕ) (a : Next) → a ≡ nextOf r d p → Answers (exactly 13 0 ∷ []) (ofNext a)
   pub token-list : (r : Record) (d : Buffers) (l l′ : List Token) (a : Number) → Listed r d l a l′
@@ -206,6 +213,8 @@ pub record Demand1 : Type 0 where
       × Settled {M = Buffers × List ℕ} (exactly 16 0 ∷ exactly 14 0 ∷ readRefusals (formOf form) line) (ofAnswer c) (d, ns) (e, ns′)
   pub ighdelmur-write : (form : ℕ) (r : Record) (d : Buffers) (out out′ : List ℕ) (a : ℕ) → HostWrites form r d out a out′
       → (c : Number) × (a ≡ numberCode c) × Settled (exactly 16 0 ∷ fillRefusals (length (lineOf (formOf form) r d))) (ofNumber c) out out′
+  pub ighdelmur-withhold : (r : Record) (d : Buffers) (b e : ℕ) (out out′ : List ℕ) (a : ℕ) → HostWithholds r d b e out a out′
+      → (c : Number) × (a ≡ numberCode c) × Settled (copyRefusals (nearest b) (length (copyOf r d b e))) (ofNumber c) out out′
   pub ighdelmur-next-token : (r : Record) (d : Buffers) (p : ℕ) (span span′ : List ℕ) (a : ℕ) → HostSteps r d p span a span′
       → (c : Next) × (a ≡ stepCode c) × Settled (exactly 13 0 ∷ exactly 14 0 ∷ []) (ofNext c) span span′
   -- the program: a run that is over without a failed call has written the answers to all that it has read; while the end of the input was not
