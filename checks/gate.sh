@@ -54,7 +54,9 @@ stand_in "$work/bin/rustc" <<<'if [ "$1" = --version ]; then echo "$RUSTC"; else
 stand_in "$work/bin/dpkg" <<<'echo "dpkg $*" >>"$CALLED"'
 stand_in "$work/bin/id" <<<'echo "$USER_ID"'
 stand_in "$work/bin/uname" <<<'echo "$MACHINE"'
-for name in rustdoc cc python3; do stand_in "$work/bin/$name" <<<'exit 1'; done
+for name in rustdoc cc; do stand_in "$work/bin/$name" <<<'exit 1'; done
+stand_in "$work/bin/python3" <<<'echo "a word of python3"; exit 1'
+stand_in "$work/bin/valgrind" <<<'exit 1'
 
 # run VAR=VALUE.. COMMAND..: what a command says and its status, into `text` and `got`, with the stand-ins as the variables have it. `without` names
 # programs that are missing; where `installs` is not `yes`, nothing may be installed.
@@ -181,7 +183,7 @@ without=rustc installs=yes ends 'the host without a compiler' 1 'nothing was run
 ends 'the host without the sources' 1 $'VAPORETTO_SRC to the folder vaporetto/src of a checkout)\n0 passed, 1 failed' VAPORETTO_SRC="$work/none" bash "$here/host/whole.sh"
 
 # The words of the host's scripts, and what they cannot do: status 2, and a line that says so.
-for name in build check-test compare-test example interrupted link record whole; do
+for name in build check-test compare-test count example interrupted link record whole withhold; do
     ends "$name with an unknown word" 2 "host/$name.sh: there is no '--more'" bash "$here/host/$name.sh" --more
     ends "the help of $name" 0 'Status 0: ' bash "$here/host/$name.sh" --help
 done
@@ -207,9 +209,24 @@ for words in build.sh 'record.sh --check'; do
     without=rustc installs=yes ends "$words without a compiler" 2 'this is missing: rustc 1.83' "$@"
     ends "$words where the compiler fails" 2 $'a word of the compiler\nhost/build.sh: the compiler failed' "$@"
 done
-without=rt ends 'the examples without rt' 2 "this is missing: rt, the kit's command" bash "$here/host/example.sh"
-ends 'the examples where rt fails' 2 $'a word on staticlib\nhost/example.sh: \'rt staticlib convert\' failed' RT_EXIT=1 bash "$here/host/example.sh"
-ends 'the examples where the compiler fails' 2 'the compiler of C failed' bash "$here/host/example.sh"
+for words in 'count exports' 'example convert' 'withhold exports'; do
+    read -r name library <<<"$words"
+    set -- bash "$here/host/$name.sh"
+    rm -rf "$here/target"
+    without=rt ends "$name without rt" 2 "this is missing: rt, the kit's command" "$@"
+    ends "$name where rt fails" 2 $'a word on staticlib\nhost/'"$name.sh: 'rt staticlib $library' failed" RT_EXIT=1 "$@"
+    ends "$name where the compiler fails" 2 'the compiler of C failed' "$@"
+done
+without=python3 ends 'withhold without python3' 2 'this is missing: python3' bash "$here/host/withhold.sh"
+set -- bash "$here/host/count.sh"
+without=valgrind installs=yes ends 'count without valgrind' 2 "this is missing: valgrind (install Debian's package valgrind; apt-get update failed" "$@"
+without=valgrind ends 'count without valgrind, and another user' 2 'only root' USER_ID=1000 "$@"
+ends 'count on an Arm machine' 2 'this needs an x86-64 processor, and this is aarch64' MACHINE=aarch64 "$@"
+ends 'count with a folder that has no library' 2 "there is no libexports.a or libconvert.a in $work/none" "$@" "$work/none"
+ends 'count with a word too many' 2 "there is no 'more'" "$@" "$work/none" more
+stand_in "$work/bin/cc" <<<'exit 0'
+ends 'count with a program that cannot be run' 2 'read, notes P: the program failed with status 127' "$@"
+ends 'withhold where a copy is another' 1 'a word of python3' bash "$here/host/withhold.sh"
 
 # A crate that crates.txt does not name.
 mkdir "$here/crates/on"

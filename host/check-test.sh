@@ -90,6 +90,20 @@ for part in number place accepts; do
     notices "writer: $part 16" "the writer's answer to an unknown form: "
 done
 
+# The withheld copy.
+notices 'copy: refuses' "the copy's answer with room enough"
+notices 'copy: answer' "the copy's answer with room enough"
+notices 'copy: line' 'the withheld copy: '
+notices 'copy: behind' 'what stands behind the withheld copy: '
+notices 'copy: overrun' 'what stands behind the withheld copy: '
+notices 'copy: memory where refused' 'the output of a refused copy: '
+notices 'copy: sheet' 'after a copy, the text: '
+for part in number place accepts; do
+    notices "copy: $part 12" "the copy's answer with short room"
+    notices "copy: $part 13" "the copy's answer to a changed sheet: "
+    notices "copy: $part 14" "the copy's answer to a range that is none: "
+done
+
 # The token step.
 notices 'step: refuses' "the step's answer"
 notices 'step: answer' "the step's answer"

@@ -60,6 +60,7 @@ if check 'the port and the original link into one program' "$here/link.sh"; then
     shown 'check notices and names each part of a wrong port' "$here/check-test.sh"
     check 'compare explains what differs on the sample, reports a wrong port, and says what it cannot do' "$here/compare-test.sh"
 fi
+shown 'the withheld copies are those of a second reading' "$here/withhold.sh"
 shown 'respell makes interrupted calls again, and goes on after short ones' "$here/interrupted.sh"
 check 'the examples in C and in Rust link the port and print what they should' "$here/example.sh"
 finish

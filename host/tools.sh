@@ -30,6 +30,7 @@ lacking() {
 no_rt() { echo "rt, the kit's command (put it on PATH)"; }
 no_src() { echo "the original's sources (no sentence.rs and predictor.rs in $src: set VAPORETTO_SRC to the folder vaporetto/src of a checkout)"; }
 no_python() { echo "python3 (install it${why:+; $why})"; }
+no_valgrind() { echo "valgrind (install Debian's package valgrind${why:+; $why})"; }
 no_rustc() { echo "rustc 1.$needed or later with rustdoc, and cc (install them${why:+; $why})"; }
 no_x86() {
     case $(uname -m) in

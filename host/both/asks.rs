@@ -16,6 +16,9 @@ const UNTOUCHED: u8 = 0xa5;
 /// How many cells are looked at past those that are to be written.
 const MARGIN: usize = 8;
 
+/// What is asked of a copy in two places.
+const NO_RANGE: &str = "the copy's answer to a range that is none";
+
 /// The longest output that the conversion takes.
 const LONGEST_OUTPUT: usize = 1 << 20;
 
@@ -173,6 +176,7 @@ impl Asks {
             0 => self.steps(form, line, answer, lengths),
             1 => self.unknown_form(answer, lengths),
             2 | 3 => self.changed(answer),
+            4 | 5 => self.withhold(form, line, answer, lengths),
             _ => Ok(()),
         }?;
         self.is_sheet("after all calls, the", answer)
@@ -181,16 +185,47 @@ impl Asks {
     /// The sentence written, with room enough and, now and then, with a byte too little.
     fn write(&mut self, writer: Form, answer: &Answer, lengths: [usize; 8]) -> Fault {
         let written = answer.written(writer);
-        let short = !written.is_empty() && self.draw.below(8) == 0;
-        let room = if short { written.len() - 1 } else { written.len() + self.draw.below(4) };
+        let room = self.room_for(written);
         let given = port::write(writer as u32, answer.record, &self.buffers.lend(lengths), &mut self.out[..room]);
-        let needed = written.len() as u64;
-        let (what, wanted, alone) = if short {
-            ("with short room", Err(Refusal { number: 12, place: needed }), self.out_alone("the output of a refused writer", room))
+        let letter = writer.letter();
+        self.wrote(given, written, room, "writer", format_args!(", as {letter}"), format_args!("the line written as {letter}"))
+    }
+
+    /// The partial line with a range withheld, in the same way; then a range that is none, whose start is told as far as the answer holds it.
+    fn withhold(&mut self, form: Form, line: &[u8], answer: &Answer, lengths: [usize; 8]) -> Fault {
+        let n = answer.record[0];
+        let start = self.draw.below(n + 1);
+        let end = start + self.draw.below(n - start + 1);
+        let copy = original::withheld(original::read(form, std::str::from_utf8(line).unwrap())?, start, end);
+        let room = self.room_for(&copy);
+        let given = port::withhold(answer.record, &self.buffers.lend(lengths), start, end, &mut self.out[..room]);
+        self.wrote(given, &copy, room, "copy", "", "the withheld copy")?;
+        self.is_sheet("after a copy, the", answer)?;
+        let (start, end) = self.draw.one(&[(end + 1, end), (start, n + 1), (1 << 32, 1 << 32), (usize::MAX, 0)]);
+        let given = port::withhold(answer.record, &self.buffers.lend(lengths), start, end, &mut self.out[..room]);
+        same(NO_RANGE, &given, &Err(Refusal { number: 14, place: start.min(u32::MAX as usize) as u64 }))?;
+        self.out_alone("the output of a refused copy", room)
+    }
+
+    /// Room enough for a line or, now and then, a byte too little.
+    fn room_for(&mut self, line: &[u8]) -> usize {
+        let short = !line.is_empty() && self.draw.below(8) == 0;
+        if short {
+            line.len() - 1
         } else {
-            ("with room enough", Ok(needed), self.out_is(format_args!("the line written as {}", writer.letter()), written, room))
+            line.len() + self.draw.below(4)
+        }
+    }
+
+    /// A writer's answer: the length of a line that stands at the front of the output, or 12 where the room is short.
+    fn wrote(&mut self, given: Result<u64, Refusal>, line: &[u8], room: usize, whose: &str, form: impl Display, name: impl Display) -> Fault {
+        let needed = line.len() as u64;
+        let (what, wanted, alone) = if room < line.len() {
+            ("with short room", Err(Refusal { number: 12, place: needed }), self.out_alone(format_args!("the output of a refused {whose}"), room))
+        } else {
+            ("with room enough", Ok(needed), self.out_is(name, line, room))
         };
-        same(format_args!("the writer's answer {what}, as {}", writer.letter()), &given, &wanted)?;
+        same(format_args!("the {whose}'s answer {what}{form}"), &given, &wanted)?;
         alone
     }
 
@@ -251,17 +286,20 @@ impl Asks {
         let room = self.out.len() - MARGIN;
         let written = port::write(1, record, &lent, &mut self.out[..room]);
         let stepped = port::next_token(record, &lent, 0, &mut span);
+        let copied = port::withhold(record, &lent, 1, 0, &mut []);
         if rules::is_sheet(record, &lent) {
             let length = written.map_or(0, |length| room.min(length as usize));
             let behind = alone("what stands behind the line written from a changed sheet", &self.out[length..length + MARGIN]);
             self.out[..length + MARGIN].fill(UNTOUCHED);
             same("whether a writer refuses a changed sheet that is one", &(written == broken), &false)?;
             same("whether a step refuses a changed sheet that is one", &(stepped == broken), &false)?;
+            same(NO_RANGE, &copied, &Err(Refusal { number: 14, place: 1 }))?;
             return behind;
         }
         let alone = self.out_alone("the output of a refused writer", answer.written(Form::Tokenized).len());
         same("the writer's answer to a changed sheet", &written, &broken)?;
         same("the step's answer to a changed sheet", &stepped, &broken)?;
+        same("the copy's answer to a changed sheet", &copied, &broken)?;
         same("the span of a refused step", &span, &[7; 2])?;
         alone
     }

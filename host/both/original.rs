@@ -3,7 +3,7 @@
 use crate::parts::{Answer, Buffers, Form, Refusal};
 use oracle::answer;
 use vaporetto::sentence::inside;
-use vaporetto::Sentence;
+use vaporetto::{CharacterBoundary, Sentence};
 
 /// What the original refused, as document 01 counts it, and in its own words.
 pub struct Refused {
@@ -97,4 +97,26 @@ pub fn next_token(sentence: &Sentence, place: usize) -> (Option<[u64; 2]>, u64) 
     let mut tokens = inside::tokens_from(sentence, place);
     let token = tokens.next().map(|t| [t.start() as u64, t.end() as u64]);
     (token, inside::place(&tokens) as u64)
+}
+
+/// The original's partial line of a sentence out of which the labels of the characters from `start` up to `end` are taken, and the columns behind
+/// the last that still has a tag.
+pub fn withheld(mut sentence: Sentence, start: usize, end: usize) -> Vec<u8> {
+    let hidden = start..end;
+    for (i, boundary) in sentence.boundaries_mut().iter_mut().enumerate() {
+        if hidden.contains(&i) || hidden.contains(&(i + 1)) {
+            *boundary = CharacterBoundary::Unknown;
+        }
+    }
+    let (count, tags) = (sentence.n_tags(), sentence.tags().to_vec());
+    let present = tags.into_iter().enumerate().filter_map(|(at, tag)| Some((at / count, at % count, tag?)));
+    let kept: Vec<_> = present.filter(|(char, ..)| !hidden.contains(char)).collect();
+    let columns = kept.iter().map(|(_, column, _)| column + 1).max().unwrap_or(0);
+    sentence.reset_tags(columns);
+    for (char, column, tag) in kept {
+        sentence.tags_mut()[char * columns + column] = Some(tag);
+    }
+    let mut line = String::new();
+    sentence.write_partial_annotation_text(&mut line);
+    line.into()
 }

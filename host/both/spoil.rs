@@ -120,13 +120,29 @@ pub fn write(given: Given, form: u32, lent: &Lent, out: &mut [u8]) -> Given {
     match (given, part) {
         (Ok(1..), "tokenized line") if tokenized => touch(out, 0),
         (Ok(1..), "partial line") if !tokenized => touch(out, 0),
+        _ => around(part, given, lent, out),
+    }
+    answer(part, given)
+}
+
+pub fn withhold(given: Given, lent: &Lent, out: &mut [u8]) -> Given {
+    let part = part_of("copy");
+    match (given, part) {
+        (Ok(_), "line") => touch(out, 0),
+        _ => around(part, given, lent, out),
+    }
+    answer(part, given)
+}
+
+/// Makes wrong what a writer is to leave alone.
+fn around(part: &str, given: Given, lent: &Lent, out: &mut [u8]) {
+    match (given, part) {
         (Ok(length), "behind") => touch(out, length as usize),
         (Ok(_), "overrun") => overrun(out),
         (Ok(_), "sheet") => scribble(lent),
         (Err(_), "memory where refused") => touch(out, 0),
         _ => {}
     }
-    answer(part, given)
 }
 
 pub fn next_token(given: Given, n: usize, p: usize, lent: &Lent, span: &mut [u64]) -> Given {

@@ -1,0 +1,65 @@
+#!/usr/bin/env bash
+# Counts how many instructions the port's calls execute on the lines of host/samples/counted.txt, by valgrind, and prints a table.
+set -eu
+. "$(dirname "${BASH_SOURCE[0]}")/tools.sh"
+usage='usage: host/count.sh [ARCHIVES]
+Builds host/count.c with the static libraries of crates/exports and crates/convert, and prints a table in Markdown: how many instructions each call
+executes on the ten lines of each kind in host/samples/counted.txt, one call for each line.
+ARCHIVES: a folder with another libexports.a, another libconvert.a or both, which are counted instead; a call that they lack has no row.
+It needs valgrind and an x86-64 processor.
+Status 0: the table is printed; 2: it could not be counted.'
+archives=
+[[ ${1:--} = -* ]] || { archives=$1 && shift; }
+no_words "$usage" "$@"
+[ "$(uname -m)" = x86_64 ] || give_up "this needs an x86-64 processor, and this is $(uname -m): the port's libraries are for x86-64, and valgrind runs only programs for the processor at hand"
+command -v valgrind >/dev/null || { packages update && packages install valgrind; } || give_up_without "$(no_valgrind)"
+[ -n "$archives" ] || command -v rt >/dev/null || give_up_without "$(no_rt)"
+find_x86 || give_up_without "$(no_x86)"
+out=$out/count
+building "$out"
+if [ -z "$archives" ]; then
+    libraries "$out/staticlib.log" exports convert
+    archives=${here%/*}/target/staticlib
+fi
+linked=()
+for name in exports convert; do
+    [ ! -f "$archives/lib$name.a" ] || linked+=("$archives/lib$name.a")
+done
+[ ${#linked[@]} != 0 ] || give_up "there is no libexports.a or libconvert.a in $archives"
+
+# All addresses are found before the first call, so that no call has the search for one in it.
+"${cc[@]}" -std=c11 -Wall -Wextra -Werror -O -o "$out/counted" "$here/count.c" -Wl,-z,now -Wl,--whole-archive "${linked[@]}" -Wl,--no-whole-archive ||
+    give_up 'the compiler of C failed: its words are above'
+
+# A row of the table, or none where the libraries lack the call: row NAME CALL FUNCTION [just], CALL as count.c has it; `just`: with just the room.
+row() {
+    local cells="" kind status rooms counted
+    for kind in 'notes P' 'plain P' 'notes T' 'plain T'; do
+        sed -n "s/^$kind\t//p" "$here/samples/counted.txt" >"$out/lines"
+        status=0
+        "$out/counted" "$2" "${kind: -1}" <"$out/lines" >"$out/answers" || status=$?
+        [ "$status" != 3 ] || return 0
+        [ "$status" = 0 ] || give_up "$1, $kind: the program failed with status $status"
+        rooms=()
+        [ $# = 3 ] || mapfile -t rooms <"$out/answers"
+        valgrind --tool=callgrind --toggle-collect="$3" --callgrind-out-file="$out/callgrind.out" --log-file="$out/valgrind.log" \
+            "$out/counted" "$2" "${kind: -1}" "${rooms[@]}" <"$out/lines" >"$out/again" || { cat "$out/valgrind.log" >&2 && give_up "$1, $kind: valgrind failed: its words are above"; }
+        counted=$(sed -n 's/^summary: //p' "$out/callgrind.out")
+        cmp "$out/answers" "$out/again" >&2 && [ "${counted:-0}" != 0 ] || give_up "$1, $kind: valgrind counted nothing, or another run"
+        cells+=" $(sed ':more; s/\([0-9]\)\([0-9]\{3\}\)\($\|,\)/\1,\2\3/; t more' <<<"$counted") |"
+    done
+    echo "| $1 |$cells"
+}
+
+echo '| call | notes P | plain P | notes T | plain T |'
+echo '|---|---|---|---|---|'
+row 'read' read ighdelmur_read
+row 'write partial, ample room' partial ighdelmur_write
+row 'write partial, just the room' partial ighdelmur_write just
+row 'write tokenized, ample room' tokenized ighdelmur_write
+row 'write tokenized, just the room' tokenized ighdelmur_write just
+row 'withhold the middle third, ample room' third ighdelmur_withhold
+row 'withhold the middle third, just the room' third ighdelmur_withhold just
+row 'withhold nothing (0..0), ample room' nothing ighdelmur_withhold
+row 'withhold nothing (0..0), just the room' nothing ighdelmur_withhold just
+row 'convert to the same form, ample room' convert ighdelmur_convert
