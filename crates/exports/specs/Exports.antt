@@ -125,7 +125,8 @@ nearestIn (number.Refused q) = number.Refused (refusal (q .number) (nearest (q .
 
 -- 13, then 14 at the range's start as it is held, then 12 at the bytes needed
 unfoldable pub hostWithholdOrder : Record → Buffers → ℕ → ℕ → ℕ → List Check
-hostWithholdOrder r d b e room = sheetOrder (not (isSheet r d)) (noRange b e (count (spell r d))) (nearest b) (ltb room (length (copyOf r d b e))) (length (copyOf r d b e))
+hostWithholdOrder r d b e room =
+    sheetOrder (not (isSheet r d)) (noRange b e (count (spell r d))) (nearest b) (ltb room (length (copyOf r d b e))) (length (copyOf r d b e))
 
 -- the number a, and the output after it: the copy's line stands over its front; a refusal alters nothing
 pub record HostWithholds (r : Record) (d : Buffers) (b e : ℕ) (out : List ℕ) (a : ℕ) (out′ : List ℕ) : Type 0 where
