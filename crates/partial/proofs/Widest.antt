@@ -88,3 +88,7 @@ module _ {r : Record} {d : Buffers} {b e w i : ℕ} (t : Seeking r d b e w i) wh
   pub seek-done : r .n ≤ i → w ≡ widest (hidden b e 0 (spell r d .cells))
   unfolding longest
   seek-done l = omega (arith, rw (rows-end (t .sheet) 0 b e i l) at (t .same))
+
+  -- there are no more columns than the record says
+  pub seek-full : r .columns ≤ w → w ≡ widest (hidden b e 0 (spell r d .cells))
+  seek-full l = omega (arith, t .same, columns-few b e (t .sheet))

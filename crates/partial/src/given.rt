@@ -67,7 +67,7 @@ fn tags_shown(row_ends: &[u16], start: usize, end: usize, i: usize) -> usize
     row_count(row_ends, i)
 }
 
-// How many columns have a present tag outside the range.
+// How many columns have a present tag outside the range; where all of them do, no further row is looked at.
 pub fn columns_shown(
     r: Record,
     text: &[u8],
@@ -86,7 +86,7 @@ pub fn columns_shown(
 {
     let mut columns = 0;
     let mut i = 0;
-    while i < r.n {
+    while i < r.n && columns < r.columns {
         let listed = tags_shown(row_ends, start, end, i);
         if columns < listed {
             columns = listed;

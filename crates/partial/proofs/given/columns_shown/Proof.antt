@@ -1,8 +1,9 @@
 -- `partial::given::columns_shown` meets its contract. The invariant: the longest row is the longest so far or one from the i-th on. Assumes nothing.
 use Prim.Native.Nat.{_-_}
 use borrow.Author.Needs.{needs}
+use borrow.Author.Tests.{ltb-false}
 use Rattle.sheet.specs.Layout.{buffers}
-use Rattle.partial.proofs.Widest.{Seeking, seek-start, seek-asks, seek-more, seek-less, seek-done}
+use Rattle.partial.proofs.Widest.{Seeking, seek-start, seek-asks, seek-more, seek-less, seek-done, seek-full}
 use Rattle.partial.proofs.given.columns_shown.Statement.{statement}
 use Rattle.partial.proofs.given.columns_shown.Tie as tie
 
@@ -15,31 +16,34 @@ abbrev μ-loop : tie.MeasureT-loop
     r .n - i
 
 loop-holds : tie.Need-loop-holds Inv-loop μ-loop
-loop-holds c = search (seek-start, seek-asks, seek-more, seek-less, seek-done, needs)
+loop-holds c = search seek-start
 
 tags-shown-requires : tie.Need-tags-shown-requires Inv-loop μ-loop
-tags-shown-requires c κs = seek-asks (c .before .before .loop .inv) (search needs)
+tags-shown-requires c κs = seek-asks (c .before .before .before .before .loop .inv) (search needs)
 
 add-i : tie.Need-add-i Inv-loop μ-loop
-add-i c = search (seek-start, seek-asks, seek-more, seek-less, seek-done, needs)
+add-i c = search needs
 
 loop-less : tie.Need-loop-less Inv-loop μ-loop
-loop-less c = search (seek-start, seek-asks, seek-more, seek-less, seek-done, needs)
+loop-less c = search needs
 
 loop-again : tie.Need-loop-again Inv-loop μ-loop
-loop-again c = search (seek-start, seek-asks, seek-more, seek-less, seek-done, needs)
+loop-again c = search (seek-more, seek-less)
 
 add-i-2 : tie.Need-add-i-2 Inv-loop μ-loop
-add-i-2 c = search (seek-start, seek-asks, seek-more, seek-less, seek-done, needs)
+add-i-2 c = search needs
 
 loop-less-2 : tie.Need-loop-less-2 Inv-loop μ-loop
-loop-less-2 c = search (seek-start, seek-asks, seek-more, seek-less, seek-done, needs)
+loop-less-2 c = search needs
 
 loop-again-2 : tie.Need-loop-again-2 Inv-loop μ-loop
-loop-again-2 c = search (seek-start, seek-asks, seek-more, seek-less, seek-done, needs)
+loop-again-2 c = search (seek-more, seek-less)
 
 returns : tie.Need-returns Inv-loop μ-loop
-returns c = search (seek-start, seek-asks, seek-more, seek-less, seek-done, needs)
+returns c = seek-full (c .before .before .before .before .loop .inv) (ltb-false _ _ (c .if2 .left))
+
+returns-2 : tie.Need-returns-2 Inv-loop μ-loop
+returns-2 c = search seek-done
 
 pub columns-shown-spec : {M : Type 1} → statement M
 columns-shown-spec =
@@ -55,4 +59,5 @@ columns-shown-spec =
     add-i-2
     loop-less-2
     loop-again-2
-    returns)
+    returns
+    returns-2)
