@@ -46,12 +46,12 @@ use Rattle.tokens.specs.declared.Next.{Next}
 use Rattle.tokens.specs.declared.Next.the-variants as step-answer
 use Rattle.tokens.specs.declared.Token.{Token}
 use Rattle.tokens.specs.Steps.{spanOf, tokensOf, nextOf, listOrder, countOf, Listed}
-use Rattle.write.specs.Answers.{lineOf, writeOrder, Written, copyOf, noRange, withholdOrder, Withholds}
+use Rattle.write.specs.Answers.{lineOf, writeOrder, Written, copyOf, noRange, withholdOrder, Withholds, keyOf, keyOrder, Keyed}
 use Rattle.passage.specs.declared.Converted.{Converted}
 use Rattle.passage.specs.Between.{Outcome, writes, formOf, between, answerOf, outputOf, Converts}
 use Rattle.passage.specs.Between.{refuses as no-line}
 use Rattle.convert.specs.Convert.{unknownForms, outOfRange, conversion, codeOf}
-use Rattle.exports.specs.Exports.{noReader, readFirst, readCode, readNumbers, hostAnswer, hostLeaves, HostReads, hostWriteOrder, numberCode, HostWrites, nearest, hostWithholdOrder, HostWithholds, spanned, stepCode, stepSpan, HostSteps}
+use Rattle.exports.specs.Exports.{noReader, readFirst, readCode, readNumbers, hostAnswer, hostLeaves, HostReads, hostWriteOrder, numberCode, HostWrites, nearest, hostWithholdOrder, HostWithholds, HostKeys, spanned, stepCode, stepSpan, HostSteps}
 use Rattle.respelling.proofs.Runs.{finished}
 use Rattle.respelling.proofs.Whole.{only-whole}
 use Rattle.demands.specs.Demand1.{Said, serves, refuses, ofAnswer, ofNumber, ofPart, ofNext, ofConverted, Allowed, exactly, allows, oneOf, Answers, Settled, Blanked, formRefusals, lineRefusals, readRefusals, updateRefusals, askRefusals, fillRefusals, copyRefusals, passRefusals, convertRefusals, Stands, Demand1}
@@ -504,6 +504,15 @@ writer f r d out out′ a w =
     (settles ofNumber number.Refused tells-number (fillRefusals (length (lineOf f r d))) (writeOrder f r d (length out)) (number.Is (length (lineOf f r d))) out (put (lineOf f r d) out) (serves-number (length (lineOf f r d)))
     (sheet-13-12 (not (isSheet r d)) (ltb (length out) (length (lineOf f r d))) 0 (length (lineOf f r d))))
 
+key-of : (r : Record) (d : Buffers) (out out′ : List ℕ) (a : Number) → Keyed r d out a out′
+    → Settled (fillRefusals (length (keyOf r d))) (ofNumber a) out out′
+unfolding keyOrder
+key-of r d out out′ a w =
+    let n = length (keyOf r d) in
+    rw (w .answer-is, w .out-is)
+    (settles ofNumber number.Refused tells-number (fillRefusals n) (keyOrder r d (length out)) (number.Is n) out (put (keyOf r d) out) (serves-number n)
+    (sheet-13-12 (not (isSheet r d)) (ltb (length out) n) 0 n))
+
 withholds : (r : Record) (d : Buffers) (b e : ℕ) (out out′ : List ℕ) (a : Number) → Withholds r d b e out a out′
     → Settled (copyRefusals b (length (copyOf r d b e))) (ofNumber a) out out′
 unfolding withholdOrder
@@ -730,6 +739,12 @@ spans (step-answer.Refused q) span b e h = (first (allows (exactly 13 0) q) _ h,
     first true b k = refl
     first false b k = absurd (false≢true k)
 
+host-key-of : (r : Record) (d : Buffers) (out out′ : List ℕ) (a : ℕ) → HostKeys r d out a out′
+    → (c : Number) × (a ≡ numberCode c) × Settled (fillRefusals (length (keyOf r d))) (ofNumber c) out out′
+host-key-of r d out out′ a w =
+    let c = verdict number.Refused (keyOrder r d (length out)) (number.Is (length (keyOf r d))) in
+    (c, w .answer-is, key-of r d out out′ c (record { answer-is = refl; out-is = w .out-is }))
+
 host-steps : (r : Record) (d : Buffers) (p : ℕ) (span span′ : List ℕ) (a : ℕ) → HostSteps r d p span a span′
     → (c : Next) × (a ≡ stepCode c) × Settled (exactly 13 0 ∷ exactly 14 0 ∷ []) (ofNext c) span span′
 host-steps r d p span span′ a w =
@@ -747,7 +762,7 @@ demand-1 = record {
   update-partial-annotation = λ x d e a w. updates partial x d e a w;
   write-tokenized-text = λ r d out out′ a w. writer tokenized r d out out′ a w;
   write-partial-annotation-text = λ r d out out′ a w. writer partial r d out out′ a w;
-  note-key = λ r d out out′ a w. writer partial r d out out′ a w;
+  note-key = λ r d out out′ a w. key-of r d out out′ a w;
   write-withheld-text = λ r d b e out out′ a w. withholds r d b e out out′ a w;
   next-token = λ r d p a e. rw e (stepped r d p);
   token-list = λ r d l l′ a w. lists r d l l′ a w;
@@ -768,6 +783,7 @@ demand-1 = record {
   ighdelmur-read = λ f x d e ns ns′ a w. host-reads f x d ns e ns′ a w;
   ighdelmur-write = λ f r d out out′ a w. host-writes f r d out out′ a w;
   ighdelmur-withhold = λ r d b e out out′ a w. host-withholds r d b e out out′ a w;
+  ighdelmur-key = λ r d out out′ a w. host-key-of r d out out′ a w;
   ighdelmur-next-token = λ r d p span span′ a w. host-steps r d p span span′ a w;
   program-ends = λ room x w a h r g f. finished room h r g f;
   program-waits = λ room x w a h r f. (_, only-whole room h r f);

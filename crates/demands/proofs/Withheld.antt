@@ -1,13 +1,11 @@
 -- The withheld copy over the public functions, from the laws of the definitions and of the contract. Assumes nothing.
 use Prim.Native.Nat.{ℕ, _+_, _≤_, _<_}
-use mathlib.Core.Path.{_≡_, refl, sym, ap, subst, _∙_}
+use mathlib.Core.Path.{_≡_, refl, sym, ap, _∙_}
 use mathlib.Core.Logic.{_↔_, _⊎_, inl, inr}
 use mathlib.Core.Bool.{Bool, true, false, _||_}
 use mathlib.Core.List.{List}
 use native.Mathlib.Omega.{arith}
-use lib.ListN.{length, replicate, length-replicate}
-use lib.Seq.{take-append-seam}
-use Rattle.laws.specs.Put.{over}
+use lib.ListN.{length}
 use Rattle.sentence.specs.Sentence.{Sentence, text, count, Formed}
 use Rattle.sentence.specs.Reading.{partial, sentence, read}
 use Rattle.sentence.specs.Writing.{written}
@@ -17,44 +15,32 @@ use Rattle.sentence.proofs.Withheld.{out-before, out-behind, in-range, formed-w
 use Rattle.sheet.specs.declared.Record.{Record}
 use Rattle.sheet.specs.Layout.{Buffers, Holds, spell, Sheet}
 use Rattle.sheet.proofs.Held.{spelled}
-use Rattle.load.proofs.Laws.{read-holds}
 use Rattle.write.specs.Answers.{copyOf}
 use Rattle.write.proofs.Withheld as write
+use Rattle.demands.proofs.Calls.{given, laid-is}
 use Rattle.demands.proofs.Demand3.{demand-3}
-use Rattle.demands.specs.Withheld.{Copied, Laid, TwoCalls, Alike, InNumbers, Within, WithheldCopy}
+use Rattle.demands.specs.Calls.{TwoCalls, Alike, Laid}
+use Rattle.demands.specs.Withheld.{Withholding, Copied, InNumbers, Within, WithheldCopy}
 
 module _ {r : Record} {d : Buffers} {b e : ℕ} where
   -- what a call that was served tells of its sheet and its line
   formed : {w : List ℕ} → Copied r d b e w → Formed (spell r d)
-  formed p = write.served (p .withholds) refl .sheet .formed
+  formed p = write.served (p .does) refl .sheet .formed
 
   line-of : {w : List ℕ} → Copied r d b e w → w ≡ copyOf r d b e
-  line-of p = p .line-is ∙ write.front (p .withholds) refl
+  line-of p = p .line-is ∙ write.front (p .does) refl
 
   copied : Sheet r d → b ≤ e → e ≤ count (spell r d) → Copied r d b e (copyOf r d b e)
-  copied h k l =
-      let out : List ℕ = replicate (length (copyOf r d b e)) 0 in
-      record {
-        output-before = out;
-        output-after = over (copyOf r d b e) out;
-        the-length = length (copyOf r d b e);
-        withholds = write.serves h k l (omega (arith, length-replicate {A = ℕ} (length (copyOf r d b e)) 0));
-        line-is = sym (take-append-seam _ _);
-      }
+  copied h k l = given (Withholding b e) (copyOf r d b e) (λ out m. write.serves h k l m)
 
   back : {w : List ℕ} → Copied r d b e w → length w ≤ 4096 → read partial w ≡ sentence (withheld b e (spell r d))
   back {w} p l = let i = line-of p in rw i (withheld-reads b e (spell r d) (formed p .cells-are) (rw i at l))
 
   -- reading it lays the copy down
   laid : {w : List ℕ} {q : Record} {c : Buffers} → Copied r d b e w → length w ≤ 4096 → Laid partial w q c → Holds q c (withheld b e (spell r d))
-  laid {w} {q} {c} p l t =
-      let k = read-holds partial w (t .buffers-before) c _ q (t .reads) refl in
-      let x = back p l in
-      let y = k .reads in
-      let z : k .s ≡ withheld b e (spell r d) = cc in
-      subst (Holds q c) z (k .holds)
+  laid p l t = laid-is (back p l) t
 
-alike : {r q : Record} {d c : Buffers} {b e : ℕ} (t : TwoCalls r q d c b e) → Outside b e (spell r d) (spell q c) → Alike t
+alike : {r q : Record} {d c : Buffers} {b e : ℕ} (t : TwoCalls (Withholding b e) r q d c) → Outside b e (spell r d) (spell q c) → Alike t
 alike {b = b} {e = e} t o = record {
   same-answer = write.answers-same b e (t .sheet-1) (t .sheet-2) o (t .call-1) (t .call-2);
   same-output = write.outputs-same b e (t .sheet-1) (t .sheet-2) o (t .call-1) (t .call-2);

@@ -34,12 +34,12 @@ use Rattle.tokens.specs.declared.Token.{Token}
 use Rattle.tokens.specs.declared.Next.{Next}
 use Rattle.tokens.specs.declared.Next.the-variants as next
 use Rattle.tokens.specs.Steps.{tokensOf, nextOf, Listed}
-use Rattle.write.specs.Answers.{lineOf, Written, copyOf, Withholds}
+use Rattle.write.specs.Answers.{lineOf, Written, copyOf, Withholds, keyOf, Keyed}
 use Rattle.passage.specs.declared.Converted.{Converted}
 use Rattle.passage.specs.declared.Converted.the-variants as converted
 use Rattle.passage.specs.Between.{formOf, Converts}
 use Rattle.convert.specs.Convert.{conversion, codeOf}
-use Rattle.exports.specs.Exports.{readCode, HostReads, numberCode, HostWrites, nearest, HostWithholds, stepCode, HostSteps}
+use Rattle.exports.specs.Exports.{readCode, HostReads, numberCode, HostWrites, nearest, HostWithholds, HostKeys, stepCode, HostSteps}
 use Rattle.respelling.specs.Respell.{respell, whole}
 use Rattle.respelling.specs.Run.{State, Run, goes}
 
@@ -168,8 +168,8 @@ pub record Demand1 : Type 0 where
       → Settled (fillRefusals (length (lineOf tokenized r d))) (ofNumber a) out out′
   pub write-partial-annotation-text : (r : Record) (d : Buffers) (out out′ : List ℕ) (a : Number) → Written partial r d out a out′
       → Settled (fillRefusals (length (lineOf partial r d))) (ofNumber a) out out′
-  pub note-key : (r : Record) (d : Buffers) (out out′ : List ℕ) (a : Number) → Written partial r d out a out′
-      → Settled (fillRefusals (length (lineOf partial r d))) (ofNumber a) out out′
+  pub note-key : (r : Record) (d : Buffers) (out out′ : List ℕ) (a : Number) → Keyed r d out a out′
+      → Settled (fillRefusals (length (keyOf r d))) (ofNumber a) out out′
   -- the withheld copy
   pub write-withheld-text : (r : Record) (d : Buffers) (b e : ℕ) (out out′ : List ℕ) (a : Number) → Withholds r d b e out a out′
       → Settled (copyRefusals b (length (copyOf r d b e))) (ofNumber a) out out′
@@ -215,6 +215,8 @@ pub record Demand1 : Type 0 where
       → (c : Number) × (a ≡ numberCode c) × Settled (exactly 16 0 ∷ fillRefusals (length (lineOf (formOf form) r d))) (ofNumber c) out out′
   pub ighdelmur-withhold : (r : Record) (d : Buffers) (b e : ℕ) (out out′ : List ℕ) (a : ℕ) → HostWithholds r d b e out a out′
       → (c : Number) × (a ≡ numberCode c) × Settled (copyRefusals (nearest b) (length (copyOf r d b e))) (ofNumber c) out out′
+  pub ighdelmur-key : (r : Record) (d : Buffers) (out out′ : List ℕ) (a : ℕ) → HostKeys r d out a out′
+      → (c : Number) × (a ≡ numberCode c) × Settled (fillRefusals (length (keyOf r d))) (ofNumber c) out out′
   pub ighdelmur-next-token : (r : Record) (d : Buffers) (p : ℕ) (span span′ : List ℕ) (a : ℕ) → HostSteps r d p span a span′
       → (c : Next) × (a ≡ stepCode c) × Settled (exactly 13 0 ∷ exactly 14 0 ∷ []) (ofNext c) span span′
   -- the program: a run that is over without a failed call has written the answers to all that it has read; while the end of the input was not

@@ -4,52 +4,24 @@ use mathlib.Core.Path.{_≡_}
 use mathlib.Core.Logic.{_↔_, _⊎_}
 use mathlib.Core.Bool.{true}
 use mathlib.Core.List.{List, []}
-use lib.ListN.{length, take, getD}
+use lib.ListN.{length, getD}
 use Rattle.utf8.specs.Utf8.{encodes}
 use Rattle.sentence.specs.Sentence.{none, unknown, Sentence, text, marks, count, Formed}
-use Rattle.sentence.specs.Reading.{Form, raw, partial, sentence, read}
+use Rattle.sentence.specs.Reading.{raw, partial, sentence, read}
 use Rattle.sentence.specs.Writing.{written}
 use Rattle.sentence.specs.Withheld.{inRange, trimmed, withheld, tagIn, Outside, Copy}
 use Rattle.sheet.specs.declared.Record.{Record}
-use Rattle.sheet.specs.declared.Number.{Number}
-use Rattle.sheet.specs.declared.Answer.the-variants as answer
-use Rattle.sheet.specs.declared.Number.the-variants as number
 use Rattle.sheet.specs.Layout.{Buffers, Holds, spell, Sheet}
-use Rattle.load.specs.Load.{ReadDoes}
 use Rattle.write.specs.Answers.{Withholds}
+use Rattle.demands.specs.Calls.{Contract, Gives, TwoCalls, Alike, Laid}
 
--- withholding the characters from b up to e of the record r and the buffers d puts w at the front of an output, by the contract
-pub record Copied (r : Record) (d : Buffers) (b e : ℕ) (w : List ℕ) : Type 0 where
-  pub output-before : List ℕ
-  pub output-after : List ℕ
-  pub the-length : ℕ
-  pub withholds : Withholds r d b e output-before (number.Is the-length) output-after
-  pub line-is : w ≡ take the-length output-after
+-- withholding the characters from b up to e
+abbrev pub Withholding : ℕ → ℕ → Contract
+Withholding b e r d out a out′ = Withholds r d b e out a out′
 
--- reading the line x in the form f answers the record q and leaves the buffers c, by the readers' contract
-pub record Laid (f : Form) (x : List ℕ) (q : Record) (c : Buffers) : Type 0 where
-  pub buffers-before : Buffers
-  pub reads : ReadDoes (read f x) buffers-before (answer.Sentence q) c
-
--- one range, two sheets, and a call on each, by the contract
-pub record TwoCalls (r q : Record) (d c : Buffers) (b e : ℕ) : Type 0 where
-  pub sheet-1 : Sheet r d
-  pub sheet-2 : Sheet q c
-  pub output-1 : List ℕ
-  pub output-2 : List ℕ
-  pub answer-1 : Number
-  pub answer-2 : Number
-  pub after-1 : List ℕ
-  pub after-2 : List ℕ
-  pub call-1 : Withholds r d b e output-1 answer-1 after-1
-  pub call-2 : Withholds q c b e output-2 answer-2 after-2
-
--- the two calls can't be told apart
-pub record Alike {r q : Record} {d c : Buffers} {b e : ℕ} (t : TwoCalls r q d c b e) : Type 0 where
-  -- with equal room they give the same answer, a refusal as well
-  pub same-answer : length (t .output-1) ≡ length (t .output-2) → t .answer-1 ≡ t .answer-2
-  -- with equal outputs they leave the same output
-  pub same-output : t .output-1 ≡ t .output-2 → t .after-1 ≡ t .after-2
+-- of the record r and the buffers d puts w at the front of an output
+abbrev pub Copied : Record → Buffers → ℕ → ℕ → List ℕ → Type 0
+Copied r d b e w = Gives (Withholding b e) r d w
 
 -- t is the sentence s with the characters from b up to e withheld, said by their numbers
 pub record InNumbers (b e : ℕ) (s t : Sentence) : Type 0 where
@@ -78,7 +50,7 @@ pub record WithheldCopy : Type 0 where
   -- two sheets give the same line exactly when they agree outside the range
   pub same-line : (r q : Record) (d c : Buffers) (b e : ℕ) (u v : List ℕ) → Copied r d b e u → Copied q c b e v → (u ≡ v) ↔ Outside b e (spell r d) (spell q c)
   -- then they give, with equal room, the same answer, a refusal as well, and with equal outputs the same output
-  pub alike : (r q : Record) (d c : Buffers) (b e : ℕ) (t : TwoCalls r q d c b e) → Outside b e (spell r d) (spell q c) → Alike t
+  pub alike : (r q : Record) (d c : Buffers) (b e : ℕ) (t : TwoCalls (Withholding b e) r q d c) → Outside b e (spell r d) (spell q c) → Alike t
   -- a line of at most 4,096 bytes reads back to the sentence withheld
   pub reads-back : (r : Record) (d : Buffers) (b e : ℕ) (w : List ℕ) → Copied r d b e w → length w ≤ 4096 → read partial w ≡ sentence (withheld b e (spell r d))
   -- the partial reader can read it, given room
@@ -88,7 +60,7 @@ pub record WithheldCopy : Type 0 where
       → Holds q c (withheld b e (spell r d))
   -- withholding a range, or a wider one, from what was read back is as withholding it from the first sheet
   pub again : (r q : Record) (d c : Buffers) (b e g h : ℕ) (w : List ℕ) → Copied r d b e w → length w ≤ 4096 → Laid partial w q c → Within b e g h
-      → (t : TwoCalls r q d c g h) → Alike t
+      → (t : TwoCalls (Withholding g h) r q d c) → Alike t
   -- with all characters withheld two sheets give the same line exactly when they have the same text
   pub all-same : (r q : Record) (d c : Buffers) (u v : List ℕ) → Copied r d 0 (count (spell r d)) u → Copied q c 0 (count (spell q c)) v
       → (u ≡ v) ↔ (text (spell r d) ≡ text (spell q c))

@@ -5,7 +5,7 @@ use mathlib.Core.List.{List}
 use Rattle.sheet.specs.Layout.{Buffers}
 use Rattle.sheet.specs.declared.Record.{Record}
 use Rattle.load.proofs.Ways.{same-is}
-use Rattle.exports.specs.Exports.{HostReads, HostWrites, HostWithholds, HostSteps}
+use Rattle.exports.specs.Exports.{HostReads, HostWrites, HostWithholds, HostKeys, HostSteps}
 
 pub host-read-once : {f : ℕ} {x : List ℕ} {d : Buffers} {ns : List ℕ} {a a′ : ℕ} {e e′ : Buffers} {m m′ : List ℕ}
     → HostReads f x d ns a e m → HostReads f x d ns a′ e′ m′ → (a ≡ a′) × (e ≡ e′) × (m ≡ m′)
@@ -18,6 +18,10 @@ host-write-once p q = (cc, cc)
 pub host-withhold-once : {r : Record} {d : Buffers} {b e : ℕ} {out : List ℕ} {a a′ : ℕ} {o o′ : List ℕ}
     → HostWithholds r d b e out a o → HostWithholds r d b e out a′ o′ → (a ≡ a′) × (o ≡ o′)
 host-withhold-once p q = (cc, cc)
+
+pub host-key-once : {r : Record} {d : Buffers} {out : List ℕ} {a a′ : ℕ} {o o′ : List ℕ}
+    → HostKeys r d out a o → HostKeys r d out a′ o′ → (a ≡ a′) × (o ≡ o′)
+host-key-once p q = (cc, cc)
 
 pub host-step-once : (r : Record) (d : Buffers) (p : ℕ) {span : List ℕ} {a a′ : ℕ} {s s′ : List ℕ}
     → HostSteps r d p span a s → HostSteps r d p span a′ s′ → (a ≡ a′) × (s ≡ s′)

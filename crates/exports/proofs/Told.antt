@@ -23,7 +23,7 @@ use Rattle.sheet.specs.declared.Number.{Number}
 use Rattle.sheet.specs.declared.Number.the-variants as number
 use Rattle.load.specs.Load.{readAnswer, ReadDoes}
 use Rattle.load.proofs.Ways.{same-self}
-use Rattle.write.specs.Answers.{Written, copyOf, noRange, withholdOrder, Withholds}
+use Rattle.write.specs.Answers.{Written, copyOf, noRange, withholdOrder, Withholds, Keyed}
 use Rattle.tokens.specs.Steps.{nextOf}
 use Rattle.tokens.specs.declared.Token.{Token as Span}
 use Rattle.tokens.specs.declared.Step.{Step}
@@ -33,7 +33,7 @@ use Rattle.tokens.specs.declared.Next.the-variants as next
 use Rattle.passage.specs.Between.{formOf}
 use Rattle.passage.proofs.Written.{is-partial}
 use Rattle.exports.proofs.Places.{nearest-length}
-use Rattle.exports.specs.Exports.{refusalCode, noReader, numbersOf, readFirst, readCode, readNumbers, ReadTold, hostAnswer, hostLeaves, HostReads, noWriter, hostWriteOrder, numberCode, HostWrites, nearest, nearestIn, hostWithholdOrder, HostWithholds, spanned, stepCode, stepSpan, Tells, HostSteps}
+use Rattle.exports.specs.Exports.{refusalCode, noReader, numbersOf, readFirst, readCode, readNumbers, ReadTold, hostAnswer, hostLeaves, HostReads, noWriter, hostWriteOrder, numberCode, HostWrites, nearest, nearestIn, hostWithholdOrder, HostWithholds, HostKeys, spanned, stepCode, stepSpan, Tells, HostSteps}
 
 -- ---- reading
 pub stored : (r : Record) (ns : List ℕ) → 5 ≤ length ns → set (set (set (set (set ns 0 (r .n)) 1 (r .b)) 2 (r .columns)) 3 (r .k)) 4 (r .g) ≡ over (numbersOf r) ns
@@ -123,6 +123,10 @@ withholds r d b e out a w i q =
     let n = length (copyOf r d b e) in
     let near = brought (not (isSheet r d)) (noRange b e (count (spell r d))) (ltb (length out) n) b n (λ z. nearest-length b e (is-sheet r d (not-false _ z))) in
     record { answer-is = q ∙ ap numberCode (i ∙ ap nearestIn (w .answer-is) ∙ near); out-is = w .out-is }
+
+-- ---- the note key
+pub keys : (r : Record) (d : Buffers) {out out′ : List ℕ} {a : Number} {c : ℕ} → Keyed r d out a out′ → c ≡ numberCode a → HostKeys r d out c out′
+keys r d w q = record { answer-is = q ∙ ap numberCode (w .answer-is); out-is = w .out-is }
 
 -- ---- a step
 module _ (s : Step) (d : List ℕ) where

@@ -20,7 +20,7 @@ use Rattle.sheet.specs.declared.Number.{Number}
 use Rattle.sheet.specs.declared.Number.the-variants as number
 use Rattle.fill.specs.Fill.{Same}
 use Rattle.load.specs.Load.{readAnswer, readLeaves}
-use Rattle.write.specs.Answers.{lineOf, writeOrder, copyOf, noRange}
+use Rattle.write.specs.Answers.{lineOf, writeOrder, copyOf, noRange, keyOf, keyOrder}
 use Rattle.tokens.specs.Steps.{nextOf}
 use Rattle.tokens.specs.declared.Step.{Step}
 use Rattle.tokens.specs.declared.Step.the-variants.{Serves, Done}
@@ -132,6 +132,12 @@ hostWithholdOrder r d b e room =
 pub record HostWithholds (r : Record) (d : Buffers) (b e : ℕ) (out : List ℕ) (a : ℕ) (out′ : List ℕ) : Type 0 where
   pub answer-is : a ≡ numberCode (verdict number.Refused (hostWithholdOrder r d b e (length out)) (number.Is (length (copyOf r d b e))))
   pub out-is : out′ ≡ verdict (λ (q : Refusal). out) (hostWithholdOrder r d b e (length out)) (over (copyOf r d b e) out)
+
+-- ---- the note key
+-- the number a, and the output after it: the key stands over its front; a refusal alters nothing
+pub record HostKeys (r : Record) (d : Buffers) (out : List ℕ) (a : ℕ) (out′ : List ℕ) : Type 0 where
+  pub answer-is : a ≡ numberCode (verdict number.Refused (keyOrder r d (length out)) (number.Is (length (keyOf r d))))
+  pub out-is : out′ ≡ verdict (λ (q : Refusal). out) (keyOrder r d (length out)) (over (keyOf r d) out)
 
 -- ---- a step of the token cursor
 -- where the step itself is not refused: 14 for a span of fewer numbers than two

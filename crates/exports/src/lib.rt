@@ -1,5 +1,5 @@
-// The host's calls besides the conversion: a line read into lent buffers, a sheet written, its withheld copy, a step of the token cursor. Each answers
-// one number; a refusal is 2^63 plus 256 times its place plus its number.
+// The host's calls besides the conversion: a line read into lent buffers, a sheet written, its withheld copy, its key, a step of the token cursor. Each
+// answers one number; a refusal is 2^63 plus 256 times its place plus its number.
 use reader::Form;
 use sentence::Refusal;
 use sheet::Answer;
@@ -17,7 +17,7 @@ ghost use Rattle.reader.specs.Flags as flags;
 ghost use Rattle.tokens.specs.declared.Next.the-variants.{Is};
 ghost use Rattle.passage.specs.Between.{formOf};
 ghost use Rattle.write.specs.Answers.{Written};
-ghost use Rattle.exports.specs.Exports.{refusalCode, Near, noReader, numbersOf, ReadTold, NearAnswer, HostReads, recordIn, noWriter, numberCode, NearNumber, HostWrites, nearest, nearestIn, HostWithholds, Tells, NearNext, HostSteps};
+ghost use Rattle.exports.specs.Exports.{refusalCode, Near, noReader, numbersOf, ReadTold, NearAnswer, HostReads, recordIn, noWriter, numberCode, NearNumber, HostWrites, nearest, nearestIn, HostWithholds, HostKeys, Tells, NearNext, HostSteps};
 
 // A refusal as one number.
 fn code(r: Refusal) -> u64
@@ -297,6 +297,47 @@ pub extern "C" fn ighdelmur_withhold(
         out,
     );
     tell_number(nearest_in(answer))
+}
+
+// Writes the note key of a sheet at the front of the output: the key's length. 13 at 0 is the first refusal, then 12 at the length.
+#[no_mangle]
+pub extern "C" fn ighdelmur_key(
+    n: usize,
+    b: usize,
+    columns: usize,
+    k: usize,
+    g: usize,
+    text: &[u8],
+    types: &[u8],
+    boundaries: &[u8],
+    char_pos: &[u16],
+    byte_pos: &[u16],
+    row_ends: &[u16],
+    tag_ends: &[u16],
+    tag_bytes: &[u8],
+    out: &mut [u8],
+) -> u64
+    ensures { λ a. ⌜ HostKeys (recordIn n b columns k g) (buffers (now (text .entry)) (now (types .entry)) (now (boundaries .entry)) (now («char_pos» .entry)) (now («byte_pos» .entry)) (now («row_ends» .entry)) (now («tag_ends» .entry)) (now («tag_bytes» .entry))) (now (out .entry)) a (now (out .exit)) ⌝ }
+{
+    let answer = write::note_key(
+        Record {
+            n,
+            b,
+            columns,
+            k,
+            g,
+        },
+        text,
+        types,
+        boundaries,
+        char_pos,
+        byte_pos,
+        row_ends,
+        tag_ends,
+        tag_bytes,
+        out,
+    );
+    tell_number(answer)
 }
 
 // Tells a step: 1 and the token's start and end, or 0 and where the cursor stands; 14 for a span of fewer numbers than two.

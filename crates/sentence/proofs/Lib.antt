@@ -4,3 +4,4 @@ pub mod Shape
 pub mod Demand3
 pub mod Tokens
 pub mod Withheld
+pub mod Keys

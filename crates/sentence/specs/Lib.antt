@@ -1,6 +1,6 @@
 pub mod Sentence
+pub mod Withheld
 pub mod Reading
 pub mod Writing
 pub mod Refusals
 pub mod Worked
-pub mod Withheld

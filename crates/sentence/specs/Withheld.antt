@@ -1,4 +1,4 @@
--- A sentence with the labels of a range of characters withheld, and columns cut back to those in use.
+-- A sentence with columns cut back to those in use, and one with the labels of a range of characters withheld.
 use Prim.Native.Nat.{ℕ, suc, _+_, _≤_, _<_, max}
 use mathlib.Core.Path.{_≡_}
 use mathlib.Core.Bool.{Bool, true, false, _&&_, _||_}
@@ -37,6 +37,12 @@ withheld b e s = trimmed (record { cells = hidden b e 0 (s .cells); columns = s 
 -- the tag of a character in a column; one past the row is absent
 abbrev pub tagIn : Sentence → ℕ → ℕ → Tag
 tagIn s i j = getD (getD (rows s) i []) j []
+
+-- text, boundaries and present tags with their columns agree
+pub record SameNote (s t : Sentence) : Type 0 where
+  pub texts : text s ≡ text t
+  pub boundaries : marks s ≡ marks t
+  pub tags : (i j : ℕ) → tagIn s i j ≡ tagIn t i j
 
 -- the same text, the same boundaries that do not touch the range, the same present tags outside it
 pub record Outside (b e : ℕ) (s t : Sentence) : Type 0 where

@@ -131,7 +131,17 @@ worked =
     -- T `a` and T `a/` differ: no column, one column
     ∷ case tokenized (97 ∷ []) the-columns (0 ∷ [])
     ∷ case tokenized (97 ∷ 47 ∷ []) the-columns (1 ∷ [])
-    ∷ case tokenized (97 ∷ 47 ∷ []) the-key (97 ∷ 47 ∷ [])
+    -- but their keys are one, and so are those of T `a b` and T `a/ b/`
+    ∷ case tokenized (97 ∷ []) the-key (97 ∷ [])
+    ∷ case tokenized (97 ∷ 47 ∷ []) the-key (97 ∷ [])
+    ∷ case tokenized (97 ∷ 32 ∷ 98 ∷ []) the-key (97 ∷ 124 ∷ 98 ∷ [])
+    ∷ case tokenized (97 ∷ 47 ∷ 32 ∷ 98 ∷ 47 ∷ []) the-key (97 ∷ 124 ∷ 98 ∷ [])
+    -- P `a/-b` has the key of P `a-b`, and P `a/|b/`, a line of 5 bytes, a key of 3
+    ∷ case partial (97 ∷ 47 ∷ 45 ∷ 98 ∷ []) the-key (97 ∷ 45 ∷ 98 ∷ [])
+    ∷ case partial (97 ∷ 47 ∷ 124 ∷ 98 ∷ 47 ∷ []) the-key (97 ∷ 124 ∷ 98 ∷ [])
+    -- only columns at the end are cut: P `a//x/|b`; a tag inside a token is one too: P `a/x-b|c`
+    ∷ case partial (97 ∷ 47 ∷ 47 ∷ 120 ∷ 47 ∷ 124 ∷ 98 ∷ []) the-key (97 ∷ 47 ∷ 47 ∷ 120 ∷ 124 ∷ 98 ∷ 47 ∷ 47 ∷ [])
+    ∷ case partial (97 ∷ 47 ∷ 120 ∷ 45 ∷ 98 ∷ 124 ∷ 99 ∷ []) the-key (97 ∷ 47 ∷ 120 ∷ 45 ∷ 98 ∷ 47 ∷ 124 ∷ 99 ∷ 47 ∷ [])
     -- P `a/x//|b//y c`: a row ends at its last present tag; all columns before a word boundary and at the end, else none that is absent
     ∷ case partial (97 ∷ 47 ∷ 120 ∷ 47 ∷ 47 ∷ 124 ∷ 98 ∷ 47 ∷ 47 ∷ 121 ∷ 32 ∷ 99 ∷ []) the-columns (3 ∷ [])
     ∷ case partial (97 ∷ 47 ∷ 120 ∷ 47 ∷ 47 ∷ 124 ∷ 98 ∷ 47 ∷ 47 ∷ 121 ∷ 32 ∷ 99 ∷ []) the-tags (120 ∷ 47 ∷ 47 ∷ 47 ∷ 121 ∷ 47 ∷ 47 ∷ 47 ∷ [])

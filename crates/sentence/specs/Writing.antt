@@ -8,6 +8,7 @@ use lib.ListN.{length, take, drop, getD}
 use Rattle.laws.specs.If.{if_then_else_}
 use Rattle.utf8.specs.Utf8.{encodes}
 use Rattle.sentence.specs.Sentence.{Tag, Mark, none, word, unknown, Cells, final, cell, Sentence, text, marks, rows, count, cut, pad}
+use Rattle.sentence.specs.Withheld.{trimmed}
 use Rattle.sentence.specs.Reading.{Form, raw, tokenized, partial, Kind, mark, slash, back, plain, kind}
 
 -- ---- tokens
@@ -100,9 +101,9 @@ written f s = encodes (line f s)
 abbrev pub needed : Form → Sentence → ℕ
 needed f s = length (written f s)
 
--- the note key, for finding duplicates
+-- the note key, for finding duplicates: the partial line, with columns cut back to the last one that has a present tag anywhere, or to none
 abbrev pub key : Sentence → List ℕ
-key s = written partial s
+key s = written partial (trimmed s)
 
 -- ---- changes
 -- all tags absent

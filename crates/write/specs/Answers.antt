@@ -9,7 +9,7 @@ use lib.ListN.{length}
 use Rattle.laws.specs.Put.{over}
 use Rattle.sentence.specs.Sentence.{count}
 use Rattle.sentence.specs.Reading.{Form, partial}
-use Rattle.sentence.specs.Writing.{written}
+use Rattle.sentence.specs.Writing.{written, key}
 use Rattle.sentence.specs.Withheld.{withheld}
 use Rattle.sentence.specs.Refusals.{Check, verdict, sheetOrder}
 use Rattle.sheet.specs.declared.Record.{Record}
@@ -47,3 +47,17 @@ withholdOrder r d b e room = sheetOrder (not (isSheet r d)) (noRange b e (count 
 pub record Withholds (r : Record) (d : Buffers) (b e : ℕ) (out : List ℕ) (answer : Number) (out′ : List ℕ) : Type 0 where
   pub answer-is : answer ≡ verdict Refused (withholdOrder r d b e (length out)) (Is (length (copyOf r d b e)))
   pub out-is : out′ ≡ verdict (λ x. out) (withholdOrder r d b e (length out)) (over (copyOf r d b e) out)
+
+-- ---- the note key
+-- the key of the sentence that lies in a sheet
+abbrev pub keyOf : Record → Buffers → List ℕ
+keyOf r d = key (spell r d)
+
+-- refused by 13, then by 12 at the bytes needed
+unfoldable pub keyOrder : Record → Buffers → ℕ → List Check
+keyOrder r d room = sheetOrder (not (isSheet r d)) false 0 (ltb room (length (keyOf r d))) (length (keyOf r d))
+
+-- the answer is the key's length, and the key stands over the front of the output; a refusal alters nothing
+pub record Keyed (r : Record) (d : Buffers) (out : List ℕ) (answer : Number) (out′ : List ℕ) : Type 0 where
+  pub answer-is : answer ≡ verdict Refused (keyOrder r d (length out)) (Is (length (keyOf r d)))
+  pub out-is : out′ ≡ verdict (λ x. out) (keyOrder r d (length out)) (over (keyOf r d) out)

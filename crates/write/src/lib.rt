@@ -15,7 +15,7 @@ ghost use Rattle.sentence.specs.Reading.{tokenized, partial};
 ghost use Rattle.sentence.specs.Refusals.{refusal};
 ghost use Rattle.sheet.specs.declared.Number.the-variants.{Refused};
 ghost use Rattle.sheet.specs.Layout.{buffers};
-ghost use Rattle.write.specs.Answers.{noRange, Written, Withholds};
+ghost use Rattle.write.specs.Answers.{noRange, Written, Withholds, Keyed};
 
 // 13: the record and the buffers are no sheet.
 fn no_sheet() -> Number
@@ -256,7 +256,7 @@ pub fn write_withheld_text(
     Number::Is(n)
 }
 
-// The note key, for finding duplicates: the partial line.
+// The note key, for finding duplicates: the copy that withholds nothing, which has only the columns that are in use.
 pub fn note_key(
     r: Record,
     text: &[u8],
@@ -269,9 +269,9 @@ pub fn note_key(
     tag_bytes: &[u8],
     out: &mut [u8],
 ) -> Number
-    ensures { λ a. ⌜ Written partial r (buffers (now (text .entry)) (now (types .entry)) (now (boundaries .entry)) (now («char_pos» .entry)) (now («byte_pos» .entry)) (now («row_ends» .entry)) (now («tag_ends» .entry)) (now («tag_bytes» .entry))) (now (out .entry)) a (now (out .exit)) ⌝ }
+    ensures { λ a. ⌜ Keyed r (buffers (now (text .entry)) (now (types .entry)) (now (boundaries .entry)) (now («char_pos» .entry)) (now («byte_pos» .entry)) (now («row_ends» .entry)) (now («tag_ends» .entry)) (now («tag_bytes» .entry))) (now (out .entry)) a (now (out .exit)) ⌝ }
 {
-    write_partial_annotation_text(
+    write_withheld_text(
         r,
         text,
         types,
@@ -281,6 +281,8 @@ pub fn note_key(
         row_ends,
         tag_ends,
         tag_bytes,
+        0,
+        0,
         out,
     )
 }
