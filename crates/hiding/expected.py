@@ -12,7 +12,7 @@ from pathlib import Path
 HERE = Path(__file__).resolve().parent
 sys.dont_write_bytecode = True
 sys.path.insert(0, str(HERE))
-from reading import Sentence, copy_of, read_line  # noqa: E402
+from reading import Sentence, copy_of, key_of, read_line  # noqa: E402
 from reference import lay, record  # noqa: E402
 
 MOST_COLUMNS = 4096
@@ -42,11 +42,11 @@ def is_sheet(sentence, letter, index, value):
     return letter == "-" or record(sentence)[RECORD.index(letter)] == value
 
 
-def one(sentence, start, end, room, letter, index, value):
-    """The answer for one copy: 13 first."""
+def one(sentence, room, letter, index, value, *span):
+    """The answer for the copy of a range, or for the key where there is no range: 13 first."""
     if not is_sheet(sentence, letter, number(index), number(value)):
         return 13, 0
-    return copy_of(sentence, number(start), number(end), number(room))
+    return copy_of(sentence, *map(number, span), number(room)) if span else key_of(sentence, number(room))
 
 
 def every(sentence, room):
@@ -61,7 +61,9 @@ def shown(answer):
 
 
 def answered(question):
-    """A question with its answers."""
+    """The kind of a question, the question with its answers, and how many they are; a line that is no question has none."""
+    if question.startswith("#"):
+        return "#", question, 0
     kind, form, field, *asked = question.split(" ")
     sentence = read_line(bytes_of(field), form)
     if not isinstance(sentence, Sentence):
@@ -70,22 +72,22 @@ def answered(question):
         answers = every(sentence, number(asked[0]))
     else:
         answers = [one(sentence, *asked)]
-    return " ".join([question, *map(shown, answers)]), len(answers)
+    return kind, " ".join([question, *map(shown, answers)]), len(answers)
 
 
 def main():
-    lines = (HERE / "stdin").read_text().splitlines()
-    made = [(line, 0) if line.startswith("#") else answered(line) for line in lines]
-    text = "".join(line + "\n" for line, _ in made)
+    made = [answered(line) for line in (HERE / "stdin").read_text().splitlines()]
+    text = "".join(line + "\n" for _, line, _ in made)
     if sys.argv[1:] != ["--check"]:
         (HERE / "stdout").write_text(text)
     elif (HERE / "stdout").read_text() != text:
         stands = (HERE / "stdout").read_text().splitlines()
-        for (ours, _), theirs in zip(made, stands):
+        for (_, ours, _), theirs in zip(made, stands):
             if ours != theirs:
                 print(f"reading.py: {ours}\n    stdout: {theirs}"[:2000])
         sys.exit("crates/hiding/stdout is not what expected.py makes of stdin")
-    print(f"{sum(count > 0 for _, count in made)} questions, {sum(count for _, count in made)} copies")
+    keys, copies = (sum(count for kind, _, count in made if kind in kinds) for kinds in ("K", "HA"))
+    print(f"{sum(count > 0 for _, _, count in made)} questions, {copies} copies, {keys} keys")
 
 
 if __name__ == "__main__":

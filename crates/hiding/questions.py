@@ -8,8 +8,10 @@ from random import Random
 HERE = Path(__file__).resolve().parent
 NOTHING = "- 0 0"
 LARGEST = "~0"  # 2^64-1
+SHEET = "a/x|あ//é-b"  # the line whose sheet is changed
 SPECIAL = "\\/ -|"
 CHARS = "aab" + SPECIAL + "éあ漢\U0001f600\ufeff"
+REFUSED = ["", "a-", "ab", "a\\-b", "a/\0", b"a\xff"]  # partial lines
 TAGS = ["", "", "x", "y", "名詞", "é", "\U00020000", "a b", "-", "|", "/", "\\", " ", "\\-|/ "]
 
 
@@ -18,14 +20,14 @@ def hexed(line):
     return line.encode().hex() if isinstance(line, str) else line.hex()
 
 
+def packed(field, start, end, room=16384, form="P", change=NOTHING):
+    """A question for one copy, of a line that is given as a field."""
+    return f"H {form} {field} {room} {change} {start} {end}"
+
+
 def copy(line, start, end, room=400, form="P", change=NOTHING):
     """A question for one copy."""
-    return f"H {form} {hexed(line)} {start} {end} {room} {change}"
-
-
-def packed(field, start, end, room=16384, form="P", change=NOTHING):
-    """The same of a line that is given as a field."""
-    return f"H {form} {field} {start} {end} {room} {change}"
+    return packed(hexed(line), start, end, room, form, change)
 
 
 def copies(line, room=64, form="P"):
@@ -33,24 +35,57 @@ def copies(line, room=64, form="P"):
     return f"A {form} {hexed(line)} {room}"
 
 
-def escaped(tag):
-    """A tag as a partial line has it."""
-    return "".join("\\" + c if c in SPECIAL else c for c in tag)
+def packed_key(field, room=16384, form="P", change=NOTHING):
+    """A question for the key of a line that is given as a field."""
+    return f"K {form} {field} {room} {change}"
+
+
+def key(line, room=400, form="P", change=NOTHING):
+    """A question for the key."""
+    return packed_key(hexed(line), room, form, change)
+
+
+def escaped(text):
+    """A tag as a line has it, and a text as a tokenized line may have it."""
+    return "".join("\\" + c if c in SPECIAL else c for c in text)
+
+
+def tagged(row):
+    """The tags of a row, empty ones too."""
+    return "".join("/" + escaped(tag) for tag in row)
 
 
 def partial(chars, marks, rows):
     """The partial line with these characters, marks and tags, empty ones too."""
-    cells = [c + "".join("/" + escaped(tag) for tag in row) for c, row in zip(chars, rows)]
-    return "".join(cell + mark for cell, mark in zip(cells, [*marks, ""]))
+    return "".join(c + tagged(row) + mark for c, row, mark in zip(chars, rows, [*marks, ""]))
 
 
-def drawn(random, most):
-    """A drawn partial line of up to so many characters; some have many tags, some none."""
+def tokenized(chars, marks, rows):
+    """The same as a tokenized line: a mark other than `-` ends a token, and tags inside a token are left out."""
+    line = ""
+    for c, row, mark in zip(chars, rows, [*marks, ""]):
+        line += escaped(c) + tagged([] if mark == "-" else row) + (" " if mark in ("|", " ") else "")
+    return line
+
+
+def widened(random, rows):
+    """These rows, some with columns behind them that no tag uses."""
+    return [row + [""] * random.choice([0, 0, 1, 2, 7]) for row in rows]
+
+
+def drawn_sentence(random, most):
+    """Drawn characters, up to so many, with their marks and tags; some have many tags, some none."""
     n = random.randint(1, most)
     columns = random.choice([0, 1, 1, 2, 3, 5])
     rows = [[random.choice(TAGS) for _ in range(random.randint(0, columns))] for _ in range(n)]
     chars = [random.choice(CHARS) for _ in range(n)]
-    return partial(chars, [random.choice(" -||") for _ in chars[1:]], rows), n
+    return chars, [random.choice(" -||") for _ in chars[1:]], rows
+
+
+def drawn(random, most):
+    """A drawn partial line of up to so many characters, and how many it has."""
+    chars, marks, rows = drawn_sentence(random, most)
+    return partial(chars, marks, rows), len(chars)
 
 
 def drawn_range(random, n):
@@ -79,16 +114,25 @@ def worked():
     yield from (copy(line, 0, 1) for line in ("a-b/x", "a-b/x/", "a///-b/x//", "a/y/z|b/x"))
 
 
+def other_numbers():
+    """Changes of the record of SHEET: each of its numbers."""
+    for letter, right in (("N", 3), ("B", 5), ("K", 3), ("G", 3)):
+        yield from (f"{letter} 0 {value}" for value in (0, right - 1, right, right + 1, 65536, LARGEST))
+    yield from (f"C 0 {value}" for value in (0, 1, 2, 3, 4096, 4097, LARGEST))
+
+
+def other_lengths():
+    """Changes of the buffers of SHEET: each is lent in several lengths."""
+    for which, need in enumerate((5, 3, 2, 4, 6, 3, 3, 3)):
+        yield from (f"L {which} {value}" for value in (0, need - 1, need, need + 1))
+
+
 def refused():
     """Each refusal at its place, and their order."""
     yield "# 13: a number of the record that is not the sheet's; columns may be more."
-    line = "a/x|あ//é-b"
-    for letter, right in (("N", 3), ("B", 5), ("K", 3), ("G", 3)):
-        yield from (copy(line, 1, 2, change=f"{letter} 0 {value}") for value in (0, right - 1, right, right + 1, 65536, LARGEST))
-    yield from (copy(line, 1, 2, change=f"C 0 {value}") for value in (0, 1, 2, 3, 4096, 4097, LARGEST))
+    yield from (copy(SHEET, 1, 2, change=change) for change in other_numbers())
     yield "# 13: a buffer that is lent short; exactly as much as is needed is enough."
-    for which, need in enumerate((5, 3, 2, 4, 6, 3, 3, 3)):
-        yield from (copy(line, 1, 2, change=f"L {which} {value}") for value in (0, need - 1, need, need + 1))
+    yield from (copy(SHEET, 1, 2, change=change) for change in other_lengths())
     yield "# 14 at the start: the start past the end, the end past the characters, or both."
     yield from (copy("a|b", 2, 1), copy("a|b", 1, 9), copy("a|b", 0, 3), copy("a|b", 3, 3), copy("a|b", 4, 3), copy("a|b", 3, 2), copy("a", 1, 0))
     yield from (copy("a|b", start, end) for start, end in ((0, LARGEST), (LARGEST, LARGEST), (LARGEST, 0), ("~1", LARGEST), (1, "~2"), (LARGEST, 2)))
@@ -102,7 +146,7 @@ def refused():
     yield from (copy("a|b", 2, 1, 0, change="N 0 3"), copy("a|b", 0, 1, 0, change="N 0 3"), copy("a|b", 2, 1, 64, change="G 0 1"))
     yield from (copy("a|b", 2, 1, 0), copy("a|b", 0, 3, 0), copy("a|b", LARGEST, LARGEST, 0), copy("a|b", 0, 1, 0), copy("a|b", 0, 1, 3))
     yield "# Lines that are refused by the reader."
-    yield from (copy("", 0, 0), copy("a-", 0, 0), copy("ab", 0, 1), copy("a\\-b", 0, 1), copy("a/\0", 0, 0), copy(b"a\xff", 0, 1))
+    yield from (copy(line, 0, 1) for line in REFUSED)
 
 
 def places():
@@ -157,8 +201,89 @@ def drawings(seed):
         yield copies(drawn(random, 5)[0], random.choice([200, 20]))
 
 
+def worked_keys():
+    """The worked lines of request [2], and lines that tell its readings apart."""
+    yield "# Keys: a column that no tag uses is none of the key, whatever the form."
+    yield from (key(line) for line in ("a/-b", "a-b", "a///-b//", "a/|b/", "a|b", "a/", "a", "々", "々///"))
+    yield from (key(line, form="T") for line in ("a b", "a/ b/", "a// b", "ab/", "ab", "々", "a/x b", "a/x/ b//"))
+    yield from (key(line, form="R") for line in ("a", "ab", "a b", "a/", "a/x-b", "あ|é", "々"))
+    yield "# Only columns at the end are cut: an empty one before a used one stays."
+    yield from (key(line) for line in ("a//x/|b", "a//x|b", "a///x/|b/y", "a/|b//x//|c", "a////|b///x", "a/x/|b//y/|c///"))
+    yield from (key(line, form="T") for line in ("a//x b", "a//x/ b", "a/ b//x", "ab//x/ c"))
+    yield "# A tag inside a token counts, and so does one before an unknown boundary."
+    yield from (key(line) for line in ("a/x-b|c", "a//x-b|c", "a/x b|c", "a//x/ b|c", "a|b/x-c|d", "a/x/-b//y/-c", "a/-b/|c/x"))
+    yield "# Sentences that differ in one thing: the text, a boundary, a tag, its character or its column."
+    yield from (key(line) for line in ("a|b/x", "a|c/x", "a-b/x", "a b/x", "a|b/y", "a|b/xx", "a|b", "a/x|b", "a|b//x", "a|b/x/x", "a/x|b/x"))
+    yield "# What is a mark, a slash or a backslash stands plain in the text and escaped in a tag."
+    yield from (key(line) for line in ("-|-", "|-|/", " | /", "/|/", "///x/", "\\|\\/", "a/\\-|b", "a/\\|/"))
+    yield from (key(line) for line in ("a/\\//\\ /\\\\/-b", "a/\\a-b", "a-b/\\", "a-b/x/\\"))
+    yield from (key(line, form="T") for line in ("a-b|c", "\\ \\/ \\\\", "a/-/|/ b/\\/", "a/\\ /\\\\/ b", "a/\\", "a\\"))
+    yield "# Characters of two, three and four bytes, in the text and in tags."
+    yield from (key(line) for line in ("é/é/|ß", "あ/名-い|う//", "\U0001f600//x|\U00020000-a//\U0001f601/", "\ufeff/\ufeff/"))
+
+
+def refused_keys():
+    """Each refusal of a key at its place, and their order."""
+    yield "# Keys, 13: a number of the record that is not the sheet's; columns may be more and do not change the key."
+    yield from (key(SHEET, change=change) for change in other_numbers())
+    yield from (key("a-b|c", change=f"C 0 {value}") for value in (0, 1, 4096, 4097, "~4095"))
+    yield "# Keys, 13: a buffer that is lent short."
+    yield from (key(SHEET, change=change) for change in other_lengths())
+    yield "# Keys, 12 at the length of the key, not of the written line: room for all, one less, none."
+    yield from (key("a/|b/", room) for room in (5, 4, 3, 2, 1, 0))
+    yield from (key("a///////", room) for room in (1, 0))
+    for line, length in (("a/x-b//|c/", 9), ("あ/x|い/é/", 12), ("a/\\-|b", 7), (SHEET, 16)):
+        yield from (key(line, room) for room in (length + 1, length, length - 1, 1, 0))
+    yield from (key(line, room, "T") for line in ("a b", "a/ b/", "a// b//") for room in (3, 2, 0))
+    yield from (key("ab", room, "R") for room in (3, 2, 0))
+    yield "# Keys, 13 before 12; columns that are not used ask for no room."
+    yield from (key(SHEET, room, change=change) for change in ("N 0 4", "B 0 4", "K 0 4", "G 0 2", "C 0 1", "C 0 4097", "L 0 4", "L 7 2") for room in (15, 0))
+    yield from (key(SHEET, room, change="C 0 4096") for room in (16, 15, 0))
+    yield "# Keys of lines that are refused by the reader."
+    yield from (key(line) for line in REFUSED)
+    yield from (key(line, form="T") for line in ("", "\\", " a", "a  b", "/a", "a /b", "a ", "a/\0", b"a\xff"))
+    yield from (key(line, form="R") for line in ("", "a\0", b"\xe3\x81"))
+
+
+def key_limits():
+    """Keys of long lines, of many columns and of long tags."""
+    yield "# Keys: long lines of each form; a key may be longer than any line that is read."
+    yield from (packed_key("617c*2047,61", room) for room in (4095, 4094, 0))
+    yield from (packed_key("61*4096", room, form) for form in "RT" for room in (8191, 8190))
+    yield packed_key("f09f9880*1024", form="R")
+    yield "# One long tag: plain, escaped, escaped without need, and one that is escaped in the key alone."
+    yield from (packed_key(field) for field in ("612f,78*4094", "612f,5c2d*2047", "612f,5c78*2047", "61,2f*3,78*2000,2f*3"))
+    yield from (packed_key("612f,2d*4094", room, "T") for room in (8190, 8189))
+    yield "# Many columns of which none is used, at one character and at two; and behind used ones."
+    yield from (packed_key("61,2f*4094", room) for room in (1, 0))
+    yield from (packed_key(field) for field in ("61,2f*4095", "61,2f*2000,7c62,2f*2000", "61,2f*4000,2d62", "612f78,2f*4000", "612f78,2f*2000,7c62,2f*2000"))
+    yield from (packed_key(field) for field in ("61,2f*1500,78,2f*1500,7c62", "61,2f*100,78,2f*3000,2d627c63", "627c*1024,62,2f*2046"))
+    yield from (packed_key(field, form="T") for field in ("61,2f*4094", "6120*1500,61,2f*1000", "612f7820*900,61,2f*400"))
+    yield "# Many columns with a tag in the last: as long as the line, and over two million bytes."
+    yield from (packed_key("61,2f*4094,78", room) for room in (4096, 4095))
+    yield from (packed_key("627c*1024,62,2f*2046,78", room) for room in (16384, 0))
+    yield packed_key("622d*1024,62,2f*2046,78")
+    yield "# A line of 4,097 bytes."
+    yield from (packed_key("61,2f*4096", form=form) for form in "RTP")
+
+
+def drawn_keys(seed):
+    """Keys of drawn lines, some with room that is short; and of drawn sentences in several spellings."""
+    random = Random(seed)
+    yield f"# Keys of drawn lines: seed {seed}."
+    for _ in range(120):
+        yield key(drawn(random, random.choice([3, 8, 8, 30]))[0], random.choice([800, 800, 800, random.randint(0, 40)]))
+    yield "# Keys of drawn sentences, each in a partial and in a tokenized line, and with unused columns in both."
+    for _ in range(30):
+        chars, marks, rows = drawn_sentence(random, random.choice([3, 8, 30]))
+        room = random.choice([800, 800, random.randint(0, 40)])
+        for cells in (rows, widened(random, rows), widened(random, rows)):
+            yield key(partial(chars, marks, cells), room)
+            yield key(tokenized(chars, marks, cells), room, "T")
+
+
 def main():
-    parts = (worked(), refused(), places(), limits(), drawings(3))
+    parts = (worked(), refused(), places(), limits(), drawings(3), worked_keys(), refused_keys(), key_limits(), drawn_keys(4))
     (HERE / "stdin").write_text("".join(line + "\n" for part in parts for line in part))
 
 

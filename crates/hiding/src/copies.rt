@@ -1,4 +1,4 @@
-// Copies of a sheet, each with its answer put and its output looked at.
+// Copies and the key of a sheet, each with its answer put and its output looked at.
 use casework::Sink;
 use casework::part;
 use sentence::Refusal;
@@ -63,6 +63,38 @@ fn told(a: Number, out: &[u8], sink: Sink) -> Sink {
         }
         Number::Refused(f) => looked(out, 0, refused(f, sink)),
     }
+}
+
+// The key, with as much of the output lent as there is to be room.
+pub fn key(
+    r: Record,
+    text: &[u8],
+    types: &[u8],
+    boundaries: &[u8],
+    char_pos: &[u16],
+    byte_pos: &[u16],
+    row_ends: &[u16],
+    tag_ends: &[u16],
+    tag_bytes: &[u8],
+    room: usize,
+    out: &mut [u8],
+    sink: Sink,
+) -> Sink {
+    fill(out);
+    let n = at_most(room, out.len());
+    let a = write::note_key(
+        r,
+        text,
+        types,
+        boundaries,
+        char_pos,
+        byte_pos,
+        row_ends,
+        tag_ends,
+        tag_bytes,
+        &mut out[..n],
+    );
+    told(a, out, sink)
 }
 
 // The copy of a range, with as much of the output lent as there is to be room.

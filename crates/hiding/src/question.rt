@@ -1,4 +1,4 @@
-// A question: its line read into a sheet, and the copies that it asks for.
+// A question: its line read into a sheet, and the key or the copies that it asks for.
 use crate::copies;
 use casework::Sink;
 use casework::field;
@@ -10,14 +10,17 @@ use casework::repeated;
 use sheet::Answer;
 use sheet::Record;
 
-// The room of each buffer of the sheet: every line has it.
-const MOST: usize = 4097;
+// The bytes of a short line, and the most room that is asked for with the small buffers.
+const SHORT: usize = 64;
 
-// The length of the output where a question asks for no more room.
-const SMALL: usize = 64;
+// The room of each small buffer: every short line has it.
+const SMALL: usize = 65;
 
-// The length of the output of any other question.
-const LARGE: usize = 16384;
+// The room of each large buffer of the sheet: every line has it.
+const LARGE: usize = 4097;
+
+// The length of the output beside the large buffers.
+const MOST: usize = 16384;
 
 // The number of a field.
 fn place(line: &[u8], k: usize) -> usize {
@@ -30,16 +33,16 @@ fn place(line: &[u8], k: usize) -> usize {
 
 // How much of a buffer is lent.
 fn lent(line: &[u8], which: usize, whole: usize) -> usize {
-    if (first(field(line, 6)) == b'L') & (place(line, 7) == which) {
-        return place(line, 8);
+    if (first(field(line, 4)) == b'L') & (place(line, 5) == which) {
+        return place(line, 6);
     }
     whole
 }
 
 // A number of the record: the value where its letter is the one given.
 fn counted(line: &[u8], letter: u8, n: usize) -> usize {
-    if first(field(line, 6)) == letter {
-        return place(line, 8);
+    if first(field(line, 4)) == letter {
+        return place(line, 6);
     }
     n
 }
@@ -55,40 +58,7 @@ fn record(line: &[u8], r: Record) -> Record {
     }
 }
 
-// The copy of one range, with as much of each buffer as is lent.
-fn one(
-    line: &[u8],
-    r: Record,
-    text: &[u8],
-    types: &[u8],
-    boundaries: &[u8],
-    char_pos: &[u16],
-    byte_pos: &[u16],
-    row_ends: &[u16],
-    tag_ends: &[u16],
-    tag_bytes: &[u8],
-    out: &mut [u8],
-    sink: Sink,
-) -> Sink {
-    copies::copy(
-        record(line, r),
-        part(text, 0, lent(line, 0, text.len())),
-        part(types, 0, lent(line, 1, types.len())),
-        part(boundaries, 0, lent(line, 2, boundaries.len())),
-        part16(char_pos, 0, lent(line, 3, char_pos.len())),
-        part16(byte_pos, 0, lent(line, 4, byte_pos.len())),
-        part16(row_ends, 0, lent(line, 5, row_ends.len())),
-        part16(tag_ends, 0, lent(line, 6, tag_ends.len())),
-        part(tag_bytes, 0, lent(line, 7, tag_bytes.len())),
-        place(line, 3),
-        place(line, 4),
-        place(line, 5),
-        out,
-        sink,
-    )
-}
-
-// What a question asks for, with an output.
+// What a question asks for, out of a sheet.
 fn told(
     line: &[u8],
     r: Record,
@@ -103,6 +73,7 @@ fn told(
     out: &mut [u8],
     sink: Sink,
 ) -> Sink {
+    let room = place(line, 3);
     if first(line) == b'A' {
         return copies::all(
             r,
@@ -114,53 +85,13 @@ fn told(
             row_ends,
             tag_ends,
             tag_bytes,
-            place(line, 3),
+            room,
             out,
             sink,
         );
     }
-    one(
-        line,
-        r,
-        text,
-        types,
-        boundaries,
-        char_pos,
-        byte_pos,
-        row_ends,
-        tag_ends,
-        tag_bytes,
-        out,
-        sink,
-    )
-}
-
-// Which field has the room.
-fn room_at(line: &[u8]) -> usize {
-    if first(line) == b'A' {
-        return 3;
-    }
-    5
-}
-
-// The answer on a sentence that was read.
-fn served(
-    line: &[u8],
-    r: Record,
-    text: &[u8],
-    types: &[u8],
-    boundaries: &[u8],
-    char_pos: &[u16],
-    byte_pos: &[u16],
-    row_ends: &[u16],
-    tag_ends: &[u16],
-    tag_bytes: &[u8],
-    sink: Sink,
-) -> Sink {
-    if place(line, room_at(line)) <= SMALL {
-        let mut small = [0u8; SMALL];
-        return told(
-            line,
+    if first(line) == b'K' {
+        return copies::key(
             r,
             text,
             types,
@@ -170,13 +101,12 @@ fn served(
             row_ends,
             tag_ends,
             tag_bytes,
-            &mut small,
+            room,
+            out,
             sink,
         );
     }
-    let mut large = [0u8; LARGE];
-    told(
-        line,
+    copies::copy(
         r,
         text,
         types,
@@ -186,9 +116,46 @@ fn served(
         row_ends,
         tag_ends,
         tag_bytes,
-        &mut large,
+        place(line, 7),
+        place(line, 8),
+        room,
+        out,
         sink,
     )
+}
+
+// The answer on what was read: a sentence has what is changed of its record, and as much of each buffer as is lent.
+fn served(
+    line: &[u8],
+    a: Answer,
+    text: &[u8],
+    types: &[u8],
+    boundaries: &[u8],
+    char_pos: &[u16],
+    byte_pos: &[u16],
+    row_ends: &[u16],
+    tag_ends: &[u16],
+    tag_bytes: &[u8],
+    out: &mut [u8],
+    sink: Sink,
+) -> Sink {
+    match a {
+        Answer::Sentence(r) => told(
+            line,
+            record(line, r),
+            part(text, 0, lent(line, 0, text.len())),
+            part(types, 0, lent(line, 1, types.len())),
+            part(boundaries, 0, lent(line, 2, boundaries.len())),
+            part16(char_pos, 0, lent(line, 3, char_pos.len())),
+            part16(byte_pos, 0, lent(line, 4, byte_pos.len())),
+            part16(row_ends, 0, lent(line, 5, row_ends.len())),
+            part16(tag_ends, 0, lent(line, 6, tag_ends.len())),
+            part(tag_bytes, 0, lent(line, 7, tag_bytes.len())),
+            out,
+            sink,
+        ),
+        Answer::Refused(f) => copies::refused(f, sink),
+    }
 }
 
 // Reads a line of a form.
@@ -243,21 +210,63 @@ fn load(
     )
 }
 
-// The answer to a question.
-pub fn ask(line: &[u8], sink: Sink) -> Sink {
-    let mut bytes = [0u8; 5120];
-    let mut text = [0u8; MOST];
-    let mut types = [0u8; MOST];
-    let mut boundaries = [0u8; MOST];
-    let mut char_pos = [0u16; MOST];
-    let mut byte_pos = [0u16; MOST];
-    let mut row_ends = [0u16; MOST];
-    let mut tag_ends = [0u16; MOST];
-    let mut tag_bytes = [0u8; MOST];
-    let n = repeated(field(line, 2), &mut bytes);
+// The answer to a question whose line has these bytes, by way of a sheet and an output.
+fn by_way(
+    line: &[u8],
+    bytes: &[u8],
+    text: &mut [u8],
+    types: &mut [u8],
+    boundaries: &mut [u8],
+    char_pos: &mut [u16],
+    byte_pos: &mut [u16],
+    row_ends: &mut [u16],
+    tag_ends: &mut [u16],
+    tag_bytes: &mut [u8],
+    out: &mut [u8],
+    sink: Sink,
+) -> Sink {
     let a = load(
         first(field(line, 1)),
-        part(&bytes, 0, n),
+        bytes,
+        text,
+        types,
+        boundaries,
+        char_pos,
+        byte_pos,
+        row_ends,
+        tag_ends,
+        tag_bytes,
+    );
+    served(
+        line,
+        a,
+        text,
+        types,
+        boundaries,
+        char_pos,
+        byte_pos,
+        row_ends,
+        tag_ends,
+        tag_bytes,
+        out,
+        sink,
+    )
+}
+
+// The same by way of the small buffers, which are cleared sooner.
+fn small(line: &[u8], bytes: &[u8], sink: Sink) -> Sink {
+    let mut text = [0u8; SMALL];
+    let mut types = [0u8; SMALL];
+    let mut boundaries = [0u8; SMALL];
+    let mut char_pos = [0u16; SMALL];
+    let mut byte_pos = [0u16; SMALL];
+    let mut row_ends = [0u16; SMALL];
+    let mut tag_ends = [0u16; SMALL];
+    let mut tag_bytes = [0u8; SMALL];
+    let mut out = [0u8; SHORT];
+    by_way(
+        line,
+        bytes,
         &mut text,
         &mut types,
         &mut boundaries,
@@ -266,21 +275,44 @@ pub fn ask(line: &[u8], sink: Sink) -> Sink {
         &mut row_ends,
         &mut tag_ends,
         &mut tag_bytes,
-    );
-    match a {
-        Answer::Sentence(r) => served(
-            line,
-            r,
-            &text,
-            &types,
-            &boundaries,
-            &char_pos,
-            &byte_pos,
-            &row_ends,
-            &tag_ends,
-            &tag_bytes,
-            sink,
-        ),
-        Answer::Refused(f) => copies::refused(f, sink),
+        &mut out,
+        sink,
+    )
+}
+
+// The same by way of the large buffers.
+fn large(line: &[u8], bytes: &[u8], sink: Sink) -> Sink {
+    let mut text = [0u8; LARGE];
+    let mut types = [0u8; LARGE];
+    let mut boundaries = [0u8; LARGE];
+    let mut char_pos = [0u16; LARGE];
+    let mut byte_pos = [0u16; LARGE];
+    let mut row_ends = [0u16; LARGE];
+    let mut tag_ends = [0u16; LARGE];
+    let mut tag_bytes = [0u8; LARGE];
+    let mut out = [0u8; MOST];
+    by_way(
+        line,
+        bytes,
+        &mut text,
+        &mut types,
+        &mut boundaries,
+        &mut char_pos,
+        &mut byte_pos,
+        &mut row_ends,
+        &mut tag_ends,
+        &mut tag_bytes,
+        &mut out,
+        sink,
+    )
+}
+
+// The answer to a question.
+pub fn ask(line: &[u8], sink: Sink) -> Sink {
+    let mut bytes = [0u8; 5120];
+    let n = repeated(field(line, 2), &mut bytes);
+    if (n <= SHORT) & (place(line, 3) <= SHORT) {
+        return small(line, part(&bytes, 0, n), sink);
     }
+    large(line, part(&bytes, 0, n), sink)
 }
