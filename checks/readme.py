@@ -1,4 +1,8 @@
-"""The examples of README.md, run: what they print is what stands there."""
+"""The examples of README.md, run: what they print is what stands there.
+
+    python3 checks/readme.py               the lines of respell, which need no compiler of C
+    python3 checks/readme.py duplicates    the recipe that finds duplicates, which needs one; host/check.sh runs it
+"""
 import os
 import re
 import subprocess
@@ -23,15 +27,28 @@ def printed(command, given=""):
     return done.stdout, done.stderr, done.returncode
 
 
-faults = 0
-lines, answers = example("TPa/x b\n")
-recipe, report = example("LC_ALL=C sed 's/^/PP/' NOTES")
-for name, got, wanted in (
-    ("the lines of respell", printed("bash respell.sh", lines), (answers, "", 0)),
-    ("the duplicates of checks/notes.txt", printed(recipe.replace("NOTES", "checks/notes.txt")), (report, "", 0)),
-):
-    if got != wanted:
-        faults += 1
-        print(f"{name}: {got!r}, and wanted was {wanted!r}")
-print(f"2 examples of README.md, {faults} with another outcome")
-sys.exit(1 if faults else 0)
+def build(*words):
+    """What a script says of building at its first call is no part of an example."""
+    subprocess.run(["bash", *words], stdin=subprocess.DEVNULL, capture_output=True)
+
+
+def respelled():
+    lines, answers = example("TPa/x b\n")
+    build("respell.sh")
+    return "the lines of respell", printed("bash respell.sh", lines), answers
+
+
+def duplicates():
+    recipe, report = example("bash host/keys.sh partial NOTES")
+    build("host/keys.sh", "partial")
+    return "the duplicates of checks/notes.txt", printed(recipe.replace("NOTES", "checks/notes.txt")), report
+
+
+if sys.argv[1:] not in ([], ["duplicates"]):
+    print(__doc__.strip(), file=sys.stderr)
+    sys.exit(2)
+name, got, wanted = duplicates() if sys.argv[1:] else respelled()
+if got != (wanted, "", 0):
+    print(f"{name}: {got!r}, and wanted was {(wanted, '', 0)!r}")
+    sys.exit(1)
+print(f"an example of README.md, with the outcome that stands there: {name}")

@@ -104,6 +104,19 @@ for part in number place accepts; do
     notices "copy: $part 14" "the copy's answer to a range that is none: "
 done
 
+# The key.
+notices 'key: refuses' "the key's answer with room enough"
+notices 'key: answer' "the key's answer with room enough"
+notices 'key: line' 'the key: '
+notices 'key: behind' 'what stands behind the key: '
+notices 'key: overrun' 'what stands behind the key: '
+notices 'key: memory where refused' 'the output of a refused key: '
+notices 'key: sheet' 'after a key, the text: '
+for part in number place accepts; do
+    notices "key: $part 12" "the key's answer with short room" "the number of the key's refusal with no room: "
+    notices "key: $part 13" "the key's answer to a changed sheet: "
+done
+
 # The token step.
 notices 'step: refuses' "the step's answer"
 notices 'step: answer' "the step's answer"

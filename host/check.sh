@@ -60,7 +60,9 @@ if check 'the port and the original link into one program' "$here/link.sh"; then
     shown 'check notices and names each part of a wrong port' "$here/check-test.sh"
     check 'compare explains what differs on the sample, reports a wrong port, and says what it cannot do' "$here/compare-test.sh"
 fi
-shown 'the withheld copies are those of a second reading' "$here/withhold.sh"
+shown 'the withheld copies and the keys are those of a second reading' "$here/withhold.sh"
+shown 'keys.sh prints the keys of a second reading, and says what it cannot do' python3 "$here/keys.py"
+shown "README.md's recipe finds the duplicates of the sample" python3 "$here/../checks/readme.py" duplicates
 shown 'respell makes interrupted calls again, and goes on after short ones' "$here/interrupted.sh"
 check 'the examples in C and in Rust link the port and print what they should' "$here/example.sh"
 finish

@@ -13,6 +13,7 @@
 #pragma weak ighdelmur_read
 #pragma weak ighdelmur_write
 #pragma weak ighdelmur_withhold
+#pragma weak ighdelmur_key
 #pragma weak ighdelmur_convert
 
 enum { LONGEST = 4096, CELLS = LONGEST + 1, ROOM = 65536 };
@@ -36,8 +37,13 @@ static uint64_t withhold(size_t start, size_t end, size_t room) {
                               char_pos, CELLS, byte_pos, CELLS, row_ends, CELLS, tag_ends, CELLS, tag_bytes, CELLS, start, end, out, room);
 }
 
-enum call { READ, PARTIAL, TOKENIZED, THIRD, NOTHING, CONVERT, CALLS };
-static const char *const calls[CALLS] = {"read", "partial", "tokenized", "third", "nothing", "convert"};
+static uint64_t write_key(size_t room) {
+    return ighdelmur_key(numbers[0], numbers[1], numbers[2], numbers[3], numbers[4], text, CELLS, types, CELLS, boundaries, CELLS,
+                         char_pos, CELLS, byte_pos, CELLS, row_ends, CELLS, tag_ends, CELLS, tag_bytes, CELLS, out, room);
+}
+
+enum call { READ, PARTIAL, TOKENIZED, THIRD, NOTHING, KEY, CONVERT, CALLS };
+static const char *const calls[CALLS] = {"read", "partial", "tokenized", "third", "nothing", "key", "convert"};
 
 static int is_there(enum call call) {
     switch (call) {
@@ -45,6 +51,7 @@ static int is_there(enum call call) {
     case READ: return ighdelmur_read != NULL;
     case THIRD:
     case NOTHING: return ighdelmur_read != NULL && ighdelmur_withhold != NULL;
+    case KEY: return ighdelmur_read != NULL && ighdelmur_key != NULL;
     default: return ighdelmur_read != NULL && ighdelmur_write != NULL;
     }
 }
@@ -55,7 +62,8 @@ static uint32_t written(enum call call, uint32_t form) {
     case CONVERT: return form;
     case TOKENIZED: return IGHDELMUR_TOKENIZED;
     case PARTIAL:
-    case NOTHING: return IGHDELMUR_PARTIAL;
+    case NOTHING:
+    case KEY: return IGHDELMUR_PARTIAL;
     default: return IGHDELMUR_RAW;
     }
 }
@@ -70,6 +78,7 @@ static uint64_t answer(enum call call, uint32_t form, const uint8_t *line, size_
     case CONVERT: return ighdelmur_convert(form, form, line, length, out, room, 0);
     case THIRD: return withhold(n / 3, n - n / 3, room);
     case NOTHING: return withhold(0, 0, room);
+    case KEY: return write_key(room);
     default: return write_line(written(call, form), room);
     }
 }
@@ -82,7 +91,7 @@ int main(int argc, char **argv) {
         call++;
     }
     if (argc < 3 || call == CALLS || (strcmp(argv[2], "P") != 0 && strcmp(argv[2], "T") != 0)) {
-        fputs("usage: counted read|partial|tokenized|third|nothing|convert P|T [ROOM]..\n", stderr);
+        fputs("usage: counted read|partial|tokenized|third|nothing|key|convert P|T [ROOM]..\n", stderr);
         return 2;
     }
     if (!is_there(call)) {

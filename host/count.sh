@@ -62,4 +62,6 @@ row 'withhold the middle third, ample room' third ighdelmur_withhold
 row 'withhold the middle third, just the room' third ighdelmur_withhold just
 row 'withhold nothing (0..0), ample room' nothing ighdelmur_withhold
 row 'withhold nothing (0..0), just the room' nothing ighdelmur_withhold just
+row 'key, ample room' key ighdelmur_key
+row 'key, just the room' key ighdelmur_key just
 row 'convert to the same form, ample room' convert ighdelmur_convert

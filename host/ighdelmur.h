@@ -58,6 +58,16 @@ uint64_t ighdelmur_withhold(size_t n, size_t b, size_t columns, size_t k, size_t
                             const uint16_t *tag_ends, size_t tag_ends_room, const uint8_t *tag_bytes, size_t tag_bytes_room,
                             size_t start, size_t end, uint8_t *out, size_t room);
 
+/* Writes the key of the sentence of the buffers into `out`: answers the key's length. The key is the partial line without the columns behind the last
+ * that has a tag. Two sentences have equal keys exactly when text, boundaries and present tags with their columns agree.
+ * Refuses: 13 numbers and buffers that are no sentence (at 0), 12 too little room (the place is the key's length). */
+uint64_t ighdelmur_key(size_t n, size_t b, size_t columns, size_t k, size_t g,
+                       const uint8_t *text, size_t text_room, const uint8_t *types, size_t types_room,
+                       const uint8_t *boundaries, size_t boundaries_room, const uint16_t *char_pos, size_t char_pos_room,
+                       const uint16_t *byte_pos, size_t byte_pos_room, const uint16_t *row_ends, size_t row_ends_room,
+                       const uint16_t *tag_ends, size_t tag_ends_room, const uint8_t *tag_bytes, size_t tag_bytes_room,
+                       uint8_t *out, size_t room);
+
 /* The token that is the first from character `p` on: answers 1 with its start and end in `span`, where its end is the next `p`; or 0, where no
  * token is left, with the cursor's place as the first of `span`.
  * Refuses: 13 numbers and buffers that are no sentence, 14 fewer than two numbers in `span` (both at 0). */

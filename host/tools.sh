@@ -32,6 +32,7 @@ no_src() { echo "the original's sources (no sentence.rs and predictor.rs in $src
 no_python() { echo "python3 (install it${why:+; $why})"; }
 no_valgrind() { echo "valgrind (install Debian's package valgrind${why:+; $why})"; }
 no_rustc() { echo "rustc 1.$needed or later with rustdoc, and cc (install them${why:+; $why})"; }
+no_c() { if [ "$(uname -m)" = x86_64 ]; then echo "cc, a compiler of C (install gcc and libc6-dev${why:+; $why})"; else no_x86; fi; }
 no_x86() {
     case $(uname -m) in
     x86_64) no_rustc ;;
@@ -71,28 +72,53 @@ new_enough() {
 # Sets `x86` to the call of a compiler for x86-64, the only processor of a static library of Rattle, `cc` to one for C, and `run` to what runs
 # their programs, or fails.
 find_x86() {
+    find_run
     case $(uname -m) in
     x86_64)
         find_rustc || return 1
         x86=("$rustc")
         cc=(cc)
-        run=()
         ;;
     aarch64)
         crosses || { install_cross && crosses; } || return 1
         x86=("$usr/bin/rustc" --target x86_64-unknown-linux-gnu -C linker=x86_64-linux-gnu-gcc)
         cc=(x86_64-linux-gnu-gcc)
-        run=("$usr/bin/qemu-x86_64")
         ;;
     *) return 1 ;;
     esac
 }
 
-# Whether Debian's compiler is there with its library for x86-64, a linker with C's start files, and the emulator.
+# The same without Rust: sets `cc` and `run`, or fails. On an Arm machine what `cc` links needs no library of x86-64 where it runs.
+find_c() {
+    find_run
+    case $(uname -m) in
+    x86_64)
+        command -v cc >/dev/null || { packages update && packages install gcc libc6-dev && command -v cc >/dev/null; } || return 1
+        cc=(cc)
+        ;;
+    aarch64)
+        crosses_c || { packages update && packages install "${cross_c[@]}" && crosses_c; } || return 1
+        cc=(x86_64-linux-gnu-gcc -static)
+        ;;
+    *) return 1 ;;
+    esac
+}
+
+# Sets `run` to what runs a program for x86-64: an emulator on an Arm machine, nothing elsewhere.
+find_run() {
+    run=()
+    [ "$(uname -m)" != aarch64 ] || run=("$usr/bin/qemu-x86_64")
+}
+
+# Whether Debian's compiler is there with its library for x86-64, and what C needs.
 crosses() {
     local library=("$usr"/lib/rustlib/x86_64-unknown-linux-gnu/lib/libstd-*.rlib)
-    (new_enough "$usr/bin/rustc") && [ -f "${library[0]}" ] && command -v x86_64-linux-gnu-gcc >/dev/null &&
-        [ -f "$usr/x86_64-linux-gnu/lib/Scrt1.o" ] && [ -x "$usr/bin/qemu-x86_64" ]
+    (new_enough "$usr/bin/rustc") && [ -f "${library[0]}" ] && crosses_c
+}
+
+# Whether a compiler of C for x86-64 is there with C's start files, and the emulator.
+crosses_c() {
+    command -v x86_64-linux-gnu-gcc >/dev/null && [ -f "$usr/x86_64-linux-gnu/lib/Scrt1.o" ] && [ -x "$usr/bin/qemu-x86_64" ]
 }
 
 # Debian's compiler, or only a linker where a compiler is there: rustc-web is the newer one where rustc itself is old.
@@ -105,11 +131,11 @@ install_rustc() {
     fi
 }
 
-# What an Arm machine needs to build and run programs for x86-64.
+# What an Arm machine needs to build and run programs for x86-64, and what of it C needs.
+cross_c=(gcc-x86-64-linux-gnu libc6-dev-amd64-cross qemu-user)
 install_cross() {
-    local others=(gcc-x86-64-linux-gnu libc6-dev-amd64-cross qemu-user)
     may_install && dpkg --add-architecture amd64 2>/dev/null && packages update || return 1
-    packages install rustc-web libstd-rust-web-dev:amd64 "${others[@]}" || packages install rustc libstd-rust-dev:amd64 "${others[@]}"
+    packages install rustc-web libstd-rust-web-dev:amd64 "${cross_c[@]}" || packages install rustc libstd-rust-dev:amd64 "${cross_c[@]}"
 }
 
 # Debian's package manager, where there is one and it may be used. It takes nothing away.

@@ -177,7 +177,7 @@ impl Asks {
             1 => self.unknown_form(answer, lengths),
             2 | 3 => self.changed(answer),
             4 | 5 => self.withhold(form, line, answer, lengths),
-            _ => Ok(()),
+            _ => self.key(form, line, answer, lengths),
         }?;
         self.is_sheet("after all calls, the", answer)
     }
@@ -205,6 +205,15 @@ impl Asks {
         let given = port::withhold(answer.record, &self.buffers.lend(lengths), start, end, &mut self.out[..room]);
         same(NO_RANGE, &given, &Err(Refusal { number: 14, place: start.min(u32::MAX as usize) as u64 }))?;
         self.out_alone("the output of a refused copy", room)
+    }
+
+    /// The key, in the same way.
+    fn key(&mut self, form: Form, line: &[u8], answer: &Answer, lengths: [usize; 8]) -> Fault {
+        let key = original::key(original::read(form, std::str::from_utf8(line).unwrap())?);
+        let room = self.room_for(&key);
+        let given = port::key(answer.record, &self.buffers.lend(lengths), &mut self.out[..room]);
+        self.wrote(given, &key, room, "key", "", "the key")?;
+        self.is_sheet("after a key, the", answer)
     }
 
     /// Room enough for a line or, now and then, a byte too little.
@@ -287,6 +296,7 @@ impl Asks {
         let written = port::write(1, record, &lent, &mut self.out[..room]);
         let stepped = port::next_token(record, &lent, 0, &mut span);
         let copied = port::withhold(record, &lent, 1, 0, &mut []);
+        let keyed = port::key(record, &lent, &mut []);
         if rules::is_sheet(record, &lent) {
             let length = written.map_or(0, |length| room.min(length as usize));
             let behind = alone("what stands behind the line written from a changed sheet", &self.out[length..length + MARGIN]);
@@ -294,12 +304,14 @@ impl Asks {
             same("whether a writer refuses a changed sheet that is one", &(written == broken), &false)?;
             same("whether a step refuses a changed sheet that is one", &(stepped == broken), &false)?;
             same(NO_RANGE, &copied, &Err(Refusal { number: 14, place: 1 }))?;
+            same("the number of the key's refusal with no room", &keyed.map_err(|refusal| refusal.number), &Err(12))?;
             return behind;
         }
         let alone = self.out_alone("the output of a refused writer", answer.written(Form::Tokenized).len());
         same("the writer's answer to a changed sheet", &written, &broken)?;
         same("the step's answer to a changed sheet", &stepped, &broken)?;
         same("the copy's answer to a changed sheet", &copied, &broken)?;
+        same("the key's answer to a changed sheet", &keyed, &broken)?;
         same("the span of a refused step", &span, &[7; 2])?;
         alone
     }

@@ -108,9 +108,19 @@ pub fn withheld(mut sentence: Sentence, start: usize, end: usize) -> Vec<u8> {
             *boundary = CharacterBoundary::Unknown;
         }
     }
+    partial_of(sentence, |char| !hidden.contains(&char))
+}
+
+/// The original's partial line of a sentence out of which the columns behind the last that has a tag are taken.
+pub fn key(sentence: Sentence) -> Vec<u8> {
+    partial_of(sentence, |_| true)
+}
+
+/// The original's partial line of a sentence with the tags of some characters alone, and columns up to the last of these tags.
+fn partial_of(mut sentence: Sentence, shows: impl Fn(usize) -> bool) -> Vec<u8> {
     let (count, tags) = (sentence.n_tags(), sentence.tags().to_vec());
     let present = tags.into_iter().enumerate().filter_map(|(at, tag)| Some((at / count, at % count, tag?)));
-    let kept: Vec<_> = present.filter(|(char, ..)| !hidden.contains(char)).collect();
+    let kept: Vec<_> = present.filter(|&(char, ..)| shows(char)).collect();
     let columns = kept.iter().map(|(_, column, _)| column + 1).max().unwrap_or(0);
     sentence.reset_tags(columns);
     for (char, column, tag) in kept {

@@ -90,6 +90,32 @@ mod exported {
             room: usize,
         ) -> u64;
 
+        pub fn ighdelmur_key(
+            n: usize,
+            b: usize,
+            columns: usize,
+            k: usize,
+            g: usize,
+            text: *const u8,
+            text_room: usize,
+            types: *const u8,
+            types_room: usize,
+            boundaries: *const u8,
+            boundaries_room: usize,
+            char_pos: *const u16,
+            char_pos_room: usize,
+            byte_pos: *const u16,
+            byte_pos_room: usize,
+            row_ends: *const u16,
+            row_ends_room: usize,
+            tag_ends: *const u16,
+            tag_ends_room: usize,
+            tag_bytes: *const u8,
+            tag_bytes_room: usize,
+            out: *mut u8,
+            room: usize,
+        ) -> u64;
+
         pub fn ighdelmur_next_token(
             n: usize,
             b: usize,
@@ -230,6 +256,38 @@ pub fn withhold([n, b, columns, k, g]: Record, lent: &Lent, start: usize, end: u
     spoil::withhold(wrote, lent, out)
 }
 
+/// The key of the sentence of lent buffers, written into the output: its length.
+pub fn key([n, b, columns, k, g]: Record, lent: &Lent, out: &mut [u8]) -> Result<u64, Refusal> {
+    let wrote = taken(unsafe {
+        exported::ighdelmur_key(
+            n,
+            b,
+            columns,
+            k,
+            g,
+            lent.text.as_ptr(),
+            lent.text.len(),
+            lent.types.as_ptr(),
+            lent.types.len(),
+            lent.boundaries.as_ptr(),
+            lent.boundaries.len(),
+            lent.char_pos.as_ptr(),
+            lent.char_pos.len(),
+            lent.byte_pos.as_ptr(),
+            lent.byte_pos.len(),
+            lent.row_ends.as_ptr(),
+            lent.row_ends.len(),
+            lent.tag_ends.as_ptr(),
+            lent.tag_ends.len(),
+            lent.tag_bytes.as_ptr(),
+            lent.tag_bytes.len(),
+            out.as_mut_ptr(),
+            out.len(),
+        )
+    });
+    spoil::key(wrote, lent, out)
+}
+
 /// A step of the token cursor from `p`: 1 and a token's start and end, or 0 and where the cursor stands.
 pub fn next_token([n, b, columns, k, g]: Record, lent: &Lent, p: usize, span: &mut [u64]) -> Result<u64, Refusal> {
     let stepped = taken(unsafe {
@@ -333,6 +391,10 @@ mod spoil {
     }
 
     pub fn withhold(given: Given, _: &Lent, _: &mut [u8]) -> Given {
+        given
+    }
+
+    pub fn key(given: Given, _: &Lent, _: &mut [u8]) -> Given {
         given
     }
 

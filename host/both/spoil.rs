@@ -126,7 +126,16 @@ pub fn write(given: Given, form: u32, lent: &Lent, out: &mut [u8]) -> Given {
 }
 
 pub fn withhold(given: Given, lent: &Lent, out: &mut [u8]) -> Given {
-    let part = part_of("copy");
+    copied("copy", given, lent, out)
+}
+
+pub fn key(given: Given, lent: &Lent, out: &mut [u8]) -> Given {
+    copied("key", given, lent, out)
+}
+
+/// Makes wrong a call that writes one line, which is never empty.
+fn copied(call: &str, given: Given, lent: &Lent, out: &mut [u8]) -> Given {
+    let part = part_of(call);
     match (given, part) {
         (Ok(_), "line") => touch(out, 0),
         _ => around(part, given, lent, out),
