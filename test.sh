@@ -21,7 +21,7 @@ It needs rt (the kit's command) and python3. The Rust part also needs the origin
 checkout, named by VAPORETTO_SRC unless it is ../shared/docs/src/vaporetto/src) and a compiler (host/README.md). Where one of them
 is missing that part is not run, which is a failure, and the line before the last says what is missing.
 
-It takes about a quarter of an hour on two processors, two minutes of it for the Rust part.
+It takes 20 to 30 minutes on two processors, two or three of them for the Rust part.
 
 What the Rust part lacks of Debian's packages (a compiler; on an Arm machine one for x86-64 and an emulator; python3) is installed
 by apt-get where this runs as root. Nothing is installed where it is there already, with --without-rust, without the original's
