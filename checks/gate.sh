@@ -170,7 +170,7 @@ stand_in "$work/bin/x86_64-linux-gnu-gcc" <<<'exit 1'
 expect 'an Arm machine with all that is needed' 0 '10 passed, 0 failed' '2 passed' y MACHINE=aarch64
 
 # The words of test.sh.
-for said in 'usage: bash test.sh' '--without-rust' VAPORETTO_SRC python3 'quarter of an hour' 'installed' 'Status 0'; do
+for said in 'usage: bash test.sh' '--without-rust' VAPORETTO_SRC python3 'minutes on two processors' 'installed' 'Status 0'; do
     ends 'the help' 0 "$said" bash "$here/test.sh" --help
 done
 ends 'an unknown word' 2 "there is no '--quick'" bash "$here/test.sh" --quick
