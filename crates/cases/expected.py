@@ -1,7 +1,7 @@
 """Makes the questions and the answers of `cases`, stdin and stdout; with --check tells whether they are up to date.
 
-What the original answered is taken from host/recorded. The rest is document 01: its lines by hand, the others by reference.py,
-which must also agree with every recorded answer.
+What the original answered is taken from host/recorded. The rest is document 01, and request [11] of document 02 for the cells: their lines by hand,
+the others by reference.py, which must also agree with every recorded answer.
 """
 import itertools
 import sys
@@ -14,6 +14,7 @@ HERE = Path(__file__).resolve().parent
 RECORDED = HERE.parent.parent / "host" / "recorded"
 FILL = 0xA5  # what every lent byte holds before a call
 ROOM = 64  # the most records of a token list
+CELLS = 4097  # the cells that a line has room for, but for a long one
 
 # The lines that document 01 names, and its refusals 1 to 10, by hand.
 BY_HAND = [
@@ -43,6 +44,20 @@ BY_HAND_BYTES = [
     ("r", "00c0", "! 2 1"), ("r", "e38182e381", "! 2 3"), ("r", "61eda080", "! 2 1"), ("r", "61f4908080", "! 2 1"),
     ("r", "c080", "! 2 0"), ("r", "61e08080", "! 2 1"), ("r", "efbbbf", "="), ("r", "f48fbfbf", "="),
     ("r", "e38182*1365,e3*1", "! 2 4095"), ("r", "e38182*1365,00*1", "! 4 4095"),
+]
+
+# Cells by hand: tokenized and partial lines with the room that they need, and what record and buffers are then.
+WORKED = "a//x b/y"  # request [11]
+CELLS_BY_HAND = [
+    ("M", "T", WORKED, "2,2,1,3,3,4,4,2", "= 2 2 2 4 2 6162 0202 01 0,1,2 0,1,2 0,0,1,2 0,1,1,0 7879"),
+    ("U", "T", WORKED, "2,2,1,3,3,4,4,2", "= 2 2 2 4 2 6162 0202 01 0,1,2 0,1,2 0,0,1,2 0,1,1,0 7879"),
+    ("M", "T", WORKED, "2,2,1,3,3,3,4,2", "! 11 0 a5a5 a5a5 a5 42405,42405,42405 42405,42405,42405 42405,42405,42405 42405,42405,42405,42405 a5a5"),
+    ("M", "T", WORKED, "2,2,1,3,3,4,3,2", "! 11 0 a5a5 a5a5 a5 42405,42405,42405 42405,42405,42405 42405,42405,42405,42405 42405,42405,42405 a5a5"),
+    ("U", "T", WORKED, "2,2,1,3,3,3,4,2", "! 11 0 20a5 06a5 a5 0,1,42405 0,1,42405 42405,42405,42405 42405,42405,42405,42405 a5a5"),
+    ("M", "T", "a//x b", "2,2,1,3,3,4,4,1", "= 2 2 2 4 1 6162 0202 01 0,1,2 0,1,2 0,0,1,1 0,1,0,0 78"),
+    ("M", "P", "a/-b", "2,2,1,3,3,2,3,0", "= 2 2 1 2 0 6162 0202 00 0,1,2 0,1,2 0,0 0,0,42405 ."),
+    ("M", "P", "a/é//-b/x/y", "2,2,1,3,3,6,6,4", "= 2 2 3 6 4 6162 0202 00 0,1,2 0,1,2 0,2,2,2,3,4 2,0,0,1,1,0 c3a97879"),
+    ("M", "R", "ab", "2,2,1,3,3,1,0,0", "= 2 2 0 0 0 6162 0202 02 0,1,2 0,1,2 42405 . ."),
 ]
 
 
@@ -193,7 +208,7 @@ ANSWERS = {
     "L": long_answer, "S": score_answer, "N": step_answer, "K": type_answer, "M": room_answer, "U": update_answer, "W": write_answer,
     "Q": look_answer, "A": list_answer,
     "B": lambda form, line, index, value: changed_answer(r.set_boundary, form, line, int(index), int(value)),
-    "C": lambda form, line, count: changed_answer(r.reset_tags, form, line, int(count)),
+    "C": lambda form, line, count: changed_answer(r.reset_tags, form, line, int(count), CELLS),
 }
 
 
@@ -231,6 +246,7 @@ def recorded_lists():
 def by_hand():
     lines = [f"{form} {hexed(text.encode())} {answer}" for form, text, answer in BY_HAND]
     lines += [f"{form} {runs} {answer}" for form, runs, answer in BY_HAND_BYTES]
+    lines += [f"{kind} {form} {hexed(text.encode())} {rooms} {answer}" for kind, form, text, rooms, answer in CELLS_BY_HAND]
     for line in lines:
         question = line.partition(" =")[0].partition(" !")[0]
         assert answered(question) == line, f"document 01 answers {answered(question)}, and by hand it is {line}"
@@ -254,7 +270,7 @@ def short():
 
 
 # Lines that are read, for the calls with numbers and rooms of their own.
-LINES = [("R", "a"), ("R", "aあ𠀀"), ("T", "a/x b"), ("T", "あ//y い/z/"), ("P", "a|b c|d"), ("P", "あ/-b/x"), ("T", "a//\\/ b"), ("P", "/-\\/é")]
+LINES = [("R", "a"), ("R", "aあ𠀀"), ("T", "a/x b"), ("T", "あ//y い/z/"), ("P", "a|b c|d"), ("P", "あ/-b/x"), ("T", "a//\\/ b"), ("P", "/-\\/é"), ("T", WORKED)]
 
 
 def each_line():
@@ -268,7 +284,7 @@ def numbers():
     for form, line, s in each_line():
         n, b = len(s.chars), r.size(s.chars)
         yield from (f"B {form} {line} {index} {value}" for index in [*range(n + 1), *far] for value in [0, 1, 2, 3, 255])
-        yield from (f"C {form} {line} {count}" for count in [0, 3, 4097, *far])
+        yield from (f"C {form} {line} {count}" for count in [0, 3, 4096, 4097, *far])
         yield from (f"S {form} {line} {listed([1] * count)}" for count in {0, n - 1, n, n + 1} - {n - 2})
         yield from (f"N {form} {line} {place}" for place in [*range(n + 2), *far])
         yield from (f"Q c {form} {line} {place}" for place in [*range(n + 3), *far])
@@ -278,6 +294,12 @@ def numbers():
             yield from (f"Q t {form} {line} {row} {column}" for column in [*range(s.columns + 2), *far])
         for start in [*range(n + 2), *far]:
             yield from (f"Q u {form} {line} {start} {end}" for end in [*range(n + 3), *far])
+
+
+def columns():
+    """As many columns as have room, and one more."""
+    line = hexed(WORKED.encode())
+    yield from (f"C T {line} {count}" for count in [CELLS // 2, CELLS // 2 + 1])
 
 
 def rooms():
@@ -316,10 +338,11 @@ def lists():
     """The lines of stdout, list by list, each under a line that says what it is."""
     yield "# What the original answered", recorded()
     yield "# The lists of the tokens that the original served", recorded_lists()
-    yield "# Document 01's lines and refusals, by hand", by_hand()
+    yield "# Document 01's lines and refusals and request [11]'s cells, by hand", by_hand()
     yield "# Every short line", map(answered, short())
     yield "# Types on both sides", map(answered, types())
     yield "# Numbers in range and out of range", map(answered, numbers())
+    yield "# Columns with room and without", map(answered, columns())
     yield "# Rooms", map(answered, rooms())
     yield "# Refused lines and rooms", map(answered, refused_rooms())
 

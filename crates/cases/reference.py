@@ -1,4 +1,4 @@
-"""Document 01 once more, in Python, written from its text alone: reading, writing, tokens, the sheet, refusals."""
+"""Document 01 once more, in Python, written from its text alone, and request [11] of document 02: reading, writing, tokens, the sheet, refusals."""
 from dataclasses import dataclass
 
 NONE, WORD, UNKNOWN = 0, 1, 2
@@ -227,9 +227,12 @@ def set_boundary(s, index, value):
     return Sentence(s.chars, marks, s.rows, s.columns)
 
 
-def reset_tags(s, count):
+def reset_tags(s, count, room):
+    """The room is that for cells, as it is lent."""
     if count > 4096:
         raise Refused(14, count)
+    if len(s.chars) * count > room:
+        raise Refused(11, 0)
     return Sentence(s.chars, s.marks, [[] for _ in s.chars], count)
 
 
@@ -289,21 +292,20 @@ def byte_positions(s):
 
 def lay(s):
     """The eight buffers of a sentence, each as long as the room needed."""
-    row_ends, tag_ends, tag_bytes = [], [], b""
-    for row in s.rows:
-        for tag in row:
+    cell_starts, cell_lengths, tag_bytes = [], [], b""
+    for i in range(len(s.chars)):
+        for tag in s.cells(i):
+            cell_starts.append(len(tag_bytes))
+            cell_lengths.append(size(tag))
             tag_bytes += tag.encode()
-            tag_ends.append(len(tag_bytes))
-        row_ends.append(len(tag_ends))
     text = "".join(s.chars).encode()
     types = [type_of(ord(c)) for c in s.chars]
-    return [list(text), types, list(s.marks), char_positions(s), byte_positions(s), row_ends, tag_ends, list(tag_bytes)]
+    return [list(text), types, list(s.marks), char_positions(s), byte_positions(s), cell_starts, cell_lengths, list(tag_bytes)]
 
 
 def record(s):
-    """N, B, columns, K, G."""
-    listed = [tag for row in s.rows for tag in row]
-    return len(s.chars), size(s.chars), s.columns, len(listed), size(listed)
+    """N, B, columns, cells, G."""
+    return len(s.chars), size(s.chars), s.columns, len(s.chars) * s.columns, sum(map(size, s.rows))
 
 
 BLANK = Sentence([" "], [], [[]], 0)

@@ -4,21 +4,26 @@
     python3 crates/damaged/expected.py --check    status 1 where it differs
 
 Where the answers come from: document 01, read once more and by itself, its sections 'Characters and types', 'The sheet', 'Writing and tokens' and
-'Refusals by number'. Nothing is taken from what the program printed. A sheet is told by laying a sentence out: the sentence that
-the buffers spell, if they spell one, must lay out to those very buffers and to that record. Python's codec says what is UTF-8.
+'Refusals by number', and request [11] of document 02 for the cells. Nothing is taken from what the program printed. A sheet is told by laying a
+sentence out: the sentence that the buffers spell, if they spell one, must lay out to those very buffers and to that record. Python's codec says what is
+UTF-8.
 
-A case is six fields: what is changed of the sheet (a letter, an index, a value), then the call and its two numbers. A line that starts with # is no case.
-The letters: t text, y types, m boundaries, c char positions, p byte positions, r row ends, e tag ends, g tag bytes: the element at the index is
-the value. N, B, C, K, G: that number of the record is the value. L: of the buffer with the index only so many elements are lent. - changes nothing.
+A case is five fields: a sheet by its number, what is changed of it, then the call and its two numbers. A line that starts with # is no case.
+A change is a letter, an index and a value, joined by commas; changes are joined by semicolons, and - changes nothing.
+The letters: t text, y types, m boundaries, c char positions, p byte positions, s cell starts, l cell lengths, g tag bytes: the element at the index is
+the value. N, B, C, E, G: that number of the record is the value, C the columns and E the cells. L: of the buffer with the index only so many elements
+are lent.
 The calls: c and s character to byte and back, b boundary, t cell, u surface, m boundary set, r tags reset, p boundaries by so many of the scores -1, 1, 0, 0.
+Behind the answer of m, r and p stand boundaries, cell starts and cell lengths after the call, as they are lent, eight elements of each at the most.
 """
 import sys
 from pathlib import Path
 
 HERE = Path(__file__).resolve().parent
-MOST, MOST_TAGS = 4096, 65535
-LETTERS = "tymcpreg"  # the buffers, in document 01's order
-RECORD = "NBCKG"
+MOST, MOST_TAG_BYTES = 4096, 65535
+LETTERS = "tymcpslg"  # the buffers, in document 01's order
+RECORD = "NBCEG"
+SHOWN = 8
 
 # Document 01: first, last, type; all else is 6.
 TYPES = [
@@ -62,13 +67,16 @@ class Sentence:
         for i, char in enumerate(self.text):
             starts.append(len(numbers))
             numbers += [i] + [0] * (len(char.encode()) - 1)
-        tags = [tag for row in self.rows for tag in row]
-        row_ends = [sum(len(row) for row in self.rows[: i + 1]) for i in range(len(self.rows))]
-        tag_ends = [sum(len(tag.encode()) for tag in tags[: i + 1]) for i in range(len(tags))]
-        text, tag_bytes = self.text.encode(), "".join(tags).encode()
-        record = {"N": len(self.text), "B": len(text), "C": self.columns, "K": len(tags), "G": len(tag_bytes)}
+        text, cell_starts, cell_lengths, tag_bytes = self.text.encode(), [], [], b""
+        for row in self.rows:
+            for column in range(self.columns):
+                cell = row[column].encode() if column < len(row) else b""
+                cell_starts.append(len(tag_bytes))
+                cell_lengths.append(len(cell))
+                tag_bytes += cell
+        record = {"N": len(self.text), "B": len(text), "C": self.columns, "E": len(cell_starts), "G": len(tag_bytes)}
         kinds = [type_of(char) for char in self.text]
-        buffers = [list(text), kinds, self.marks, starts + [len(text)], numbers + [len(self.text)], row_ends, tag_ends, list(tag_bytes)]
+        buffers = [list(text), kinds, self.marks, starts + [len(text)], numbers + [len(self.text)], cell_starts, cell_lengths, list(tag_bytes)]
         return record, buffers
 
     def is_one(self):
@@ -83,37 +91,45 @@ class Sentence:
             and all(len(row) <= self.columns and (not row or row[-1] != "") for row in self.rows)
             and record["B"] <= MOST
             and self.columns <= MOST
-            and record["K"] <= MOST_TAGS
-            and record["G"] <= MOST_TAGS
+            and record["G"] <= MOST_TAG_BYTES
         )
 
 
-def pieces(values, ends):
-    """The pieces of a list that end where told, one behind the other; what no ends can mean is no list of pieces."""
-    begins = [0] + ends[:-1]
-    if any(begin > end for begin, end in zip(begins, ends)) or (ends[-1] if ends else 0) != len(values):
+def pieces(values, lengths):
+    """The pieces of a list with these lengths, one behind the other; lengths that are not all of it make none."""
+    if sum(lengths) != len(values):
         raise ValueError
-    return [values[begin:end] for begin, end in zip(begins, ends)]
+    at, found = 0, []
+    for length in lengths:
+        found.append(values[at : at + length])
+        at += length
+    return found
+
+
+def rows_of(tags, n, columns):
+    """The rows of a padded table: each through its last present tag."""
+    rows = [tags[i * columns : (i + 1) * columns] for i in range(n)]
+    return [row[: max((j + 1 for j, tag in enumerate(row) if tag != ""), default=0)] for row in rows]
 
 
 def spelt(record, buffers):
     """The sentence that a record and buffers are, or None."""
-    n, b, k, g = (record[name] for name in "NBKG")
-    rooms = [b, n, n - 1, n + 1, b + 1, n, k, g]
-    if n < 1 or any(len(buffer) < room for buffer, room in zip(buffers, rooms)):
+    n, b, columns, cells, g = (record[name] for name in RECORD)
+    rooms = [b, n, n - 1, n + 1, b + 1, cells, cells, g]
+    if n < 1 or cells != n * columns or any(len(buffer) < room for buffer, room in zip(buffers, rooms)):
         return None
     needed = [buffer[:room] for buffer, room in zip(buffers, rooms)]
-    text, _, marks, _, _, row_ends, tag_ends, tag_bytes = needed
+    text, _, marks, _, _, _, cell_lengths, tag_bytes = needed
     try:
-        tags = [bytes(tag).decode() for tag in pieces(tag_bytes, tag_ends)]
-        found = Sentence(bytes(text).decode(), marks, pieces(tags, row_ends), record["C"])
-    except ValueError:  # no UTF-8, or ends that are none
+        tags = [bytes(tag).decode() for tag in pieces(tag_bytes, cell_lengths)]
+        found = Sentence(bytes(text).decode(), marks, rows_of(tags, n, columns), columns)
+    except ValueError:  # no UTF-8, or lengths that are none
         return None
     return found if found.is_one() and found.laid_out() == (record, needed) else None
 
 
 def answer(record, buffers, call, x, y):
-    """What a call answers, in the words that are printed."""
+    """What a call answers, in the words that are printed; a change is made in the buffers."""
     s = spelt(record, buffers)
     demand(s, 13, 0)
     n, b = record["N"], record["B"]
@@ -140,31 +156,55 @@ def answer(record, buffers, call, x, y):
         after = Sentence(s.text, s.marks[:x] + [y] + s.marks[x + 1 :], s.rows, s.columns)
     elif call == "r":
         demand(x <= MOST, 14, x)
+        demand(n * x <= min(len(buffers[5]), len(buffers[6])), 11, 0)
         after = Sentence(s.text, s.marks, [[] for _ in s.text], x)
     elif call == "p":
         scores = [-1, 1, 0, 0][:x]
         demand(len(scores) == n - 1, 14, len(scores))
         after = Sentence(s.text, [int(score > 0) for score in scores], [[] for _ in s.text], 0)
-    return after.laid_out()[0].values()
+    told, laid = after.laid_out()
+    for buffer, part in zip(buffers, laid):
+        buffer[: len(part)] = part
+    return told.values()
+
+
+def sheet(number):
+    """A sheet by its number: record and buffers, with the room that is lent."""
+    if number == 0:  # `a` with the tag x, then あ with an absent tag and é, then `b` with none; a boundary of either kind
+        return Sentence("aあb", [0, 1], [["x"], ["", "é"], []], 2).laid_out()
+    if number == 1:  # the tokenized line `a//x b/y`: starts 0 0 1 2, lengths 0 1 1 0
+        record, buffers = Sentence("ab", [1], [["", "x"], ["y"]], 2).laid_out()
+        assert buffers[5:7] == [[0, 0, 1, 2], [0, 1, 1, 0]]
+        return record, buffers
+    text, room, spare, byte = [("ab", 3, 7, ord("z")), ("a" * 17, 17 * MOST, 0, 0)][number - 2]  # no columns, and room for cells
+    record, buffers = Sentence(text, [0] * (len(text) - 1), [[] for _ in text], 0).laid_out()
+    return record, [*buffers[:5], [spare] * room, [spare] * room, [byte]]
+
+
+def listed(values, joint):
+    """The first elements of a buffer."""
+    return joint.join(map(str, values[:SHOWN])) or "."
 
 
 def case(line):
     """A case with its answer."""
-    letter, index, value, call, x, y = line.split(" ")
-    index, value, x, y = int(index), int(value), int(x), int(y)
-    # The sheet: `a` with the tag x, then あ with an absent tag and é, then `b` with none; a boundary of either kind; two columns.
-    record, buffers = Sentence("aあb", [0, 1], [["x"], ["", "é"], []], 2).laid_out()
-    if letter in LETTERS:
-        buffers[LETTERS.index(letter)][index] = value
-    elif letter in RECORD:
-        record[letter] = value
-    elif letter == "L":
-        buffers[index] = buffers[index][:value]
+    number, changes, call, x, y = line.split(" ")
+    record, buffers = sheet(int(number))
+    for change in changes.split(";") if changes != "-" else []:
+        letter, index, value = change.split(",")
+        index, value = int(index), int(value)
+        if letter in LETTERS:
+            buffers[LETTERS.index(letter)][index] = value
+        elif letter in RECORD:
+            record[letter] = value
+        elif letter == "L":
+            buffers[index] = buffers[index][:value]
     try:
-        told = " ".join(str(word) for word in answer(record, buffers, call, x, y))
+        told = " ".join(str(word) for word in answer(record, buffers, call, int(x), int(y)))
     except Refused as refusal:
         told = "!{} {}".format(*refusal.args)
-    return f"{line} = {told}"
+    left = f" {listed(buffers[2], '')} {listed(buffers[5], ',')} {listed(buffers[6], ',')}" if call in "mrp" else ""
+    return f"{line} = {told}{left}"
 
 
 def main():

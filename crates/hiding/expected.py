@@ -15,8 +15,8 @@ sys.path.insert(0, str(HERE))
 from reading import Sentence, copy_of, key_of, read_line  # noqa: E402
 from reference import lay, record  # noqa: E402
 
-MOST_COLUMNS = 4096
-RECORD = "NBCKG"
+CELLS = 400000  # the cells that a line has room for; every short line has fewer
+RECORD = "NBCEG"
 
 
 def bytes_of(field):
@@ -34,11 +34,9 @@ def number(field):
 
 
 def is_sheet(sentence, letter, index, value):
-    """Whether record and buffers are a sentence still: all numbers but the columns follow from the buffers."""
+    """Whether record and buffers are a sentence still: with one number changed they are none, for the cells are characters times columns."""
     if letter == "L":
         return len(lay(sentence)[index]) <= value
-    if letter == "C":
-        return max(len(row) for row in sentence.rows) <= value <= MOST_COLUMNS
     return letter == "-" or record(sentence)[RECORD.index(letter)] == value
 
 
@@ -68,6 +66,8 @@ def answered(question):
     sentence = read_line(bytes_of(field), form)
     if not isinstance(sentence, Sentence):
         answers = [sentence]
+    elif len(sentence.chars) * sentence.columns > CELLS:
+        answers = [(11, 0)]
     elif kind == "A":
         answers = every(sentence, number(asked[0]))
     else:

@@ -116,20 +116,20 @@ def worked():
 
 def other_numbers():
     """Changes of the record of SHEET: each of its numbers."""
-    for letter, right in (("N", 3), ("B", 5), ("K", 3), ("G", 3)):
+    for letter, right in (("N", 3), ("B", 5), ("E", 6), ("G", 3)):
         yield from (f"{letter} 0 {value}" for value in (0, right - 1, right, right + 1, 65536, LARGEST))
     yield from (f"C 0 {value}" for value in (0, 1, 2, 3, 4096, 4097, LARGEST))
 
 
 def other_lengths():
     """Changes of the buffers of SHEET: each is lent in several lengths."""
-    for which, need in enumerate((5, 3, 2, 4, 6, 3, 3, 3)):
+    for which, need in enumerate((5, 3, 2, 4, 6, 6, 6, 3)):
         yield from (f"L {which} {value}" for value in (0, need - 1, need, need + 1))
 
 
 def refused():
     """Each refusal at its place, and their order."""
-    yield "# 13: a number of the record that is not the sheet's; columns may be more."
+    yield "# 13: a number of the record that is not the sheet's."
     yield from (copy(SHEET, 1, 2, change=change) for change in other_numbers())
     yield "# 13: a buffer that is lent short; exactly as much as is needed is enough."
     yield from (copy(SHEET, 1, 2, change=change) for change in other_lengths())
@@ -180,9 +180,13 @@ def limits():
     for field in ("612f,78*4094", "612f,5c2d*2047", "61,2f*4094,78"):
         yield from (packed(field, start, end) for start, end in ((0, 0), (0, 1), (1, 1)))
         yield from (packed(field, 1, 1, room) for room in (4096, 4095))
-    yield "# A tag in the last of 2,046 columns of 1,025 tokens: over two million bytes, and few where it is hidden."
-    yield from (packed("627c*1024,62,2f*2046,78", start, end) for start, end in ((0, 0), (0, 1), (500, 1024), (1024, 1025), (0, 1025)))
-    yield packed("627c*1024,62,2f*2046,78", 1024, 1025, 2048)
+    yield "# A tag in the last of 700 columns of 501 tokens: over 350,000 bytes, and few where it is hidden."
+    yield from (packed("627c*500,62,2f*700,78", start, end) for start, end in ((0, 0), (0, 1), (250, 500), (500, 501), (0, 501)))
+    yield packed("627c*500,62,2f*700,78", 500, 501, 1001)
+    yield packed("627c*500,62,2f*700,78", 500, 501, 1000)
+    yield "# Cells: as many as there is room for, and more."
+    yield from (packed(field, 0, 1, form="T") for field in ("62*400,2f*1000", "62*400,2f*1001", "62*401,2f*1000"))
+    yield packed("627c*1024,62,2f*2046,78", 1024, 1025)
     yield "# Tags at both ends of a long line."
     for start, end in ((0, 1), (1, 1301), (1301, 1302), (0, 1302), (700, 700)):
         yield packed("622f78,7c62*1300,2d622f2f79", start, end)
@@ -224,7 +228,7 @@ def worked_keys():
 
 def refused_keys():
     """Each refusal of a key at its place, and their order."""
-    yield "# Keys, 13: a number of the record that is not the sheet's; columns may be more and do not change the key."
+    yield "# Keys, 13: a number of the record that is not the sheet's, columns that no tag uses too."
     yield from (key(SHEET, change=change) for change in other_numbers())
     yield from (key("a-b|c", change=f"C 0 {value}") for value in (0, 1, 4096, 4097, "~4095"))
     yield "# Keys, 13: a buffer that is lent short."
@@ -236,8 +240,8 @@ def refused_keys():
         yield from (key(line, room) for room in (length + 1, length, length - 1, 1, 0))
     yield from (key(line, room, "T") for line in ("a b", "a/ b/", "a// b//") for room in (3, 2, 0))
     yield from (key("ab", room, "R") for room in (3, 2, 0))
-    yield "# Keys, 13 before 12; columns that are not used ask for no room."
-    yield from (key(SHEET, room, change=change) for change in ("N 0 4", "B 0 4", "K 0 4", "G 0 2", "C 0 1", "C 0 4097", "L 0 4", "L 7 2") for room in (15, 0))
+    yield "# Keys, 13 before 12."
+    yield from (key(SHEET, room, change=change) for change in ("N 0 4", "B 0 4", "E 0 7", "G 0 2", "C 0 1", "C 0 4097", "L 0 4", "L 5 5", "L 6 5", "L 7 2") for room in (15, 0))
     yield from (key(SHEET, room, change="C 0 4096") for room in (16, 15, 0))
     yield "# Keys of lines that are refused by the reader."
     yield from (key(line) for line in REFUSED)
@@ -257,12 +261,14 @@ def key_limits():
     yield "# Many columns of which none is used, at one character and at two; and behind used ones."
     yield from (packed_key("61,2f*4094", room) for room in (1, 0))
     yield from (packed_key(field) for field in ("61,2f*4095", "61,2f*2000,7c62,2f*2000", "61,2f*4000,2d62", "612f78,2f*4000", "612f78,2f*2000,7c62,2f*2000"))
-    yield from (packed_key(field) for field in ("61,2f*1500,78,2f*1500,7c62", "61,2f*100,78,2f*3000,2d627c63", "627c*1024,62,2f*2046"))
-    yield from (packed_key(field, form="T") for field in ("61,2f*4094", "6120*1500,61,2f*1000", "612f7820*900,61,2f*400"))
-    yield "# Many columns with a tag in the last: as long as the line, and over two million bytes."
+    yield from (packed_key(field) for field in ("61,2f*1500,78,2f*1500,7c62", "61,2f*100,78,2f*3000,2d627c63", "627c*500,62,2f*700"))
+    yield from (packed_key(field, form="T") for field in ("61,2f*4094", "6120*300,61,2f*1300", "612f7820*900,61,2f*400"))
+    yield "# Many columns with a tag in the last: as long as the line, and over 350,000 bytes."
     yield from (packed_key("61,2f*4094,78", room) for room in (4096, 4095))
-    yield from (packed_key("627c*1024,62,2f*2046,78", room) for room in (16384, 0))
-    yield packed_key("622d*1024,62,2f*2046,78")
+    yield from (packed_key("627c*500,62,2f*700,78", room) for room in (16384, 0))
+    yield packed_key("622d*500,62,2f*700,78")
+    yield "# More cells than there is room for: 11, before 12."
+    yield from (packed_key(field, room) for field in ("627c*1024,62,2f*2046,78", "627c*1024,62,2f*2046") for room in (16384, 0))
     yield "# A line of 4,097 bytes."
     yield from (packed_key("61,2f*4096", form=form) for form in "RTP")
 

@@ -1,5 +1,5 @@
 // The readers as questions ask them: a line read into buffers with given room and handed back by value, with all that the
-// buffers hold after the call.
+// buffers hold after the call; or into buffers that are lent.
 use calls::MOST;
 use sheet::Answer;
 ghost use Prim.Native.Nat.{_≤_};
@@ -12,8 +12,8 @@ pub struct Held {
     pub boundaries: [u8; MOST],
     pub char_pos: [u16; MOST],
     pub byte_pos: [u16; MOST],
-    pub row_ends: [u16; MOST],
-    pub tag_ends: [u16; MOST],
+    pub cell_starts: [u16; MOST],
+    pub cell_lengths: [u16; MOST],
     pub tag_bytes: [u8; MOST],
 }
 
@@ -49,8 +49,8 @@ fn raw(
     let mut boundaries = [165u8; MOST];
     let mut char_pos = [42405u16; MOST];
     let mut byte_pos = [42405u16; MOST];
-    let mut row_ends = [42405u16; MOST];
-    let mut tag_ends = [42405u16; MOST];
+    let mut cell_starts = [42405u16; MOST];
+    let mut cell_lengths = [42405u16; MOST];
     let mut tag_bytes = [165u8; MOST];
     let answer = read::from_raw(
         line,
@@ -59,8 +59,8 @@ fn raw(
         &mut boundaries[0..c],
         &mut char_pos[0..d],
         &mut byte_pos[0..e],
-        &mut row_ends[0..f],
-        &mut tag_ends[0..g],
+        &mut cell_starts[0..f],
+        &mut cell_lengths[0..g],
         &mut tag_bytes[0..h],
     );
     Held {
@@ -70,8 +70,8 @@ fn raw(
         boundaries,
         char_pos,
         byte_pos,
-        row_ends,
-        tag_ends,
+        cell_starts,
+        cell_lengths,
         tag_bytes,
     }
 }
@@ -95,8 +95,8 @@ fn tokenized(
     let mut boundaries = [165u8; MOST];
     let mut char_pos = [42405u16; MOST];
     let mut byte_pos = [42405u16; MOST];
-    let mut row_ends = [42405u16; MOST];
-    let mut tag_ends = [42405u16; MOST];
+    let mut cell_starts = [42405u16; MOST];
+    let mut cell_lengths = [42405u16; MOST];
     let mut tag_bytes = [165u8; MOST];
     let answer = read::from_tokenized(
         line,
@@ -105,8 +105,8 @@ fn tokenized(
         &mut boundaries[0..c],
         &mut char_pos[0..d],
         &mut byte_pos[0..e],
-        &mut row_ends[0..f],
-        &mut tag_ends[0..g],
+        &mut cell_starts[0..f],
+        &mut cell_lengths[0..g],
         &mut tag_bytes[0..h],
     );
     Held {
@@ -116,8 +116,8 @@ fn tokenized(
         boundaries,
         char_pos,
         byte_pos,
-        row_ends,
-        tag_ends,
+        cell_starts,
+        cell_lengths,
         tag_bytes,
     }
 }
@@ -141,8 +141,8 @@ fn partial(
     let mut boundaries = [165u8; MOST];
     let mut char_pos = [42405u16; MOST];
     let mut byte_pos = [42405u16; MOST];
-    let mut row_ends = [42405u16; MOST];
-    let mut tag_ends = [42405u16; MOST];
+    let mut cell_starts = [42405u16; MOST];
+    let mut cell_lengths = [42405u16; MOST];
     let mut tag_bytes = [165u8; MOST];
     let answer = read::from_partial_annotation(
         line,
@@ -151,8 +151,8 @@ fn partial(
         &mut boundaries[0..c],
         &mut char_pos[0..d],
         &mut byte_pos[0..e],
-        &mut row_ends[0..f],
-        &mut tag_ends[0..g],
+        &mut cell_starts[0..f],
+        &mut cell_lengths[0..g],
         &mut tag_bytes[0..h],
     );
     Held {
@@ -162,8 +162,8 @@ fn partial(
         boundaries,
         char_pos,
         byte_pos,
-        row_ends,
-        tag_ends,
+        cell_starts,
+        cell_lengths,
         tag_bytes,
     }
 }
@@ -187,6 +187,58 @@ pub fn read_line(form: u8, line: &[u8], rooms: [usize; 8]) -> Held {
     partial(line, a, b, c, d, e, f, g, h)
 }
 
+// Reads a line in the form of a letter into lent buffers.
+pub fn read_into(
+    form: u8,
+    line: &[u8],
+    text: &mut [u8],
+    types: &mut [u8],
+    boundaries: &mut [u8],
+    char_pos: &mut [u16],
+    byte_pos: &mut [u16],
+    cell_starts: &mut [u16],
+    cell_lengths: &mut [u16],
+    tag_bytes: &mut [u8],
+) -> Answer {
+    if form == b'R' {
+        return read::from_raw(
+            line,
+            text,
+            types,
+            boundaries,
+            char_pos,
+            byte_pos,
+            cell_starts,
+            cell_lengths,
+            tag_bytes,
+        );
+    }
+    if form == b'T' {
+        return read::from_tokenized(
+            line,
+            text,
+            types,
+            boundaries,
+            char_pos,
+            byte_pos,
+            cell_starts,
+            cell_lengths,
+            tag_bytes,
+        );
+    }
+    read::from_partial_annotation(
+        line,
+        text,
+        types,
+        boundaries,
+        char_pos,
+        byte_pos,
+        cell_starts,
+        cell_lengths,
+        tag_bytes,
+    )
+}
+
 // An update by a raw line.
 fn raw_again(
     line: &[u8],
@@ -206,8 +258,8 @@ fn raw_again(
     let mut boundaries = [165u8; MOST];
     let mut char_pos = [42405u16; MOST];
     let mut byte_pos = [42405u16; MOST];
-    let mut row_ends = [42405u16; MOST];
-    let mut tag_ends = [42405u16; MOST];
+    let mut cell_starts = [42405u16; MOST];
+    let mut cell_lengths = [42405u16; MOST];
     let mut tag_bytes = [165u8; MOST];
     let answer = read::update_raw(
         line,
@@ -216,8 +268,8 @@ fn raw_again(
         &mut boundaries[0..c],
         &mut char_pos[0..d],
         &mut byte_pos[0..e],
-        &mut row_ends[0..f],
-        &mut tag_ends[0..g],
+        &mut cell_starts[0..f],
+        &mut cell_lengths[0..g],
         &mut tag_bytes[0..h],
     );
     Held {
@@ -227,8 +279,8 @@ fn raw_again(
         boundaries,
         char_pos,
         byte_pos,
-        row_ends,
-        tag_ends,
+        cell_starts,
+        cell_lengths,
         tag_bytes,
     }
 }
@@ -252,8 +304,8 @@ fn tokenized_again(
     let mut boundaries = [165u8; MOST];
     let mut char_pos = [42405u16; MOST];
     let mut byte_pos = [42405u16; MOST];
-    let mut row_ends = [42405u16; MOST];
-    let mut tag_ends = [42405u16; MOST];
+    let mut cell_starts = [42405u16; MOST];
+    let mut cell_lengths = [42405u16; MOST];
     let mut tag_bytes = [165u8; MOST];
     let answer = read::update_tokenized(
         line,
@@ -262,8 +314,8 @@ fn tokenized_again(
         &mut boundaries[0..c],
         &mut char_pos[0..d],
         &mut byte_pos[0..e],
-        &mut row_ends[0..f],
-        &mut tag_ends[0..g],
+        &mut cell_starts[0..f],
+        &mut cell_lengths[0..g],
         &mut tag_bytes[0..h],
     );
     Held {
@@ -273,8 +325,8 @@ fn tokenized_again(
         boundaries,
         char_pos,
         byte_pos,
-        row_ends,
-        tag_ends,
+        cell_starts,
+        cell_lengths,
         tag_bytes,
     }
 }
@@ -298,8 +350,8 @@ fn partial_again(
     let mut boundaries = [165u8; MOST];
     let mut char_pos = [42405u16; MOST];
     let mut byte_pos = [42405u16; MOST];
-    let mut row_ends = [42405u16; MOST];
-    let mut tag_ends = [42405u16; MOST];
+    let mut cell_starts = [42405u16; MOST];
+    let mut cell_lengths = [42405u16; MOST];
     let mut tag_bytes = [165u8; MOST];
     let answer = read::update_partial_annotation(
         line,
@@ -308,8 +360,8 @@ fn partial_again(
         &mut boundaries[0..c],
         &mut char_pos[0..d],
         &mut byte_pos[0..e],
-        &mut row_ends[0..f],
-        &mut tag_ends[0..g],
+        &mut cell_starts[0..f],
+        &mut cell_lengths[0..g],
         &mut tag_bytes[0..h],
     );
     Held {
@@ -319,8 +371,8 @@ fn partial_again(
         boundaries,
         char_pos,
         byte_pos,
-        row_ends,
-        tag_ends,
+        cell_starts,
+        cell_lengths,
         tag_bytes,
     }
 }

@@ -12,7 +12,7 @@ use sheet::Record;
 use tokens::Next;
 ghost use Prim.Native.Nat.{_≤_};
 
-// The most room of a buffer: what a line of 4,096 bytes can need.
+// The most room of a buffer: what a line of 4,096 bytes can need, but for its cells.
 pub const MOST: usize = 4097;
 
 // What a look-up found: a number, a part of the text or of the tags, or a step of the token cursor.
@@ -82,8 +82,8 @@ fn predict(
     boundaries: &mut [u8],
     char_pos: &[u16],
     byte_pos: &[u16],
-    row_ends: &mut [u16],
-    tag_ends: &[u16],
+    cell_starts: &[u16],
+    cell_lengths: &[u16],
     tag_bytes: &[u8],
 ) -> Answer {
     let mut given = [0i32; 16];
@@ -95,8 +95,8 @@ fn predict(
         boundaries,
         char_pos,
         byte_pos,
-        row_ends,
-        tag_ends,
+        cell_starts,
+        cell_lengths,
         tag_bytes,
         scores_to(&given, n),
     )
@@ -111,8 +111,8 @@ pub fn change(
     boundaries: &mut [u8; MOST],
     char_pos: &[u16; MOST],
     byte_pos: &[u16; MOST],
-    row_ends: &mut [u16; MOST],
-    tag_ends: &[u16; MOST],
+    cell_starts: &mut [u16; MOST],
+    cell_lengths: &mut [u16; MOST],
     tag_bytes: &[u8; MOST],
 ) -> Answer {
     let kind = first(line);
@@ -125,8 +125,8 @@ pub fn change(
             boundaries,
             char_pos,
             byte_pos,
-            row_ends,
-            tag_ends,
+            cell_starts,
+            cell_lengths,
             tag_bytes,
             place(line, 3),
             value,
@@ -140,8 +140,8 @@ pub fn change(
             boundaries,
             char_pos,
             byte_pos,
-            row_ends,
-            tag_ends,
+            cell_starts,
+            cell_lengths,
             tag_bytes,
             place(line, 3),
         );
@@ -155,8 +155,8 @@ pub fn change(
             boundaries,
             char_pos,
             byte_pos,
-            row_ends,
-            tag_ends,
+            cell_starts,
+            cell_lengths,
             tag_bytes,
         );
     }
@@ -172,8 +172,8 @@ fn look_number(
     boundaries: &[u8],
     char_pos: &[u16],
     byte_pos: &[u16],
-    row_ends: &[u16],
-    tag_ends: &[u16],
+    cell_starts: &[u16],
+    cell_lengths: &[u16],
     tag_bytes: &[u8],
     a: usize,
 ) -> Number {
@@ -185,8 +185,8 @@ fn look_number(
             boundaries,
             char_pos,
             byte_pos,
-            row_ends,
-            tag_ends,
+            cell_starts,
+            cell_lengths,
             tag_bytes,
             a,
         );
@@ -199,8 +199,8 @@ fn look_number(
             boundaries,
             char_pos,
             byte_pos,
-            row_ends,
-            tag_ends,
+            cell_starts,
+            cell_lengths,
             tag_bytes,
             a,
         );
@@ -212,8 +212,8 @@ fn look_number(
         boundaries,
         char_pos,
         byte_pos,
-        row_ends,
-        tag_ends,
+        cell_starts,
+        cell_lengths,
         tag_bytes,
         a,
     )
@@ -228,8 +228,8 @@ fn look_up(
     boundaries: &[u8],
     char_pos: &[u16],
     byte_pos: &[u16],
-    row_ends: &[u16],
-    tag_ends: &[u16],
+    cell_starts: &[u16],
+    cell_lengths: &[u16],
     tag_bytes: &[u8],
 ) -> Found {
     let which = first(field(line, 1));
@@ -242,8 +242,8 @@ fn look_up(
             boundaries,
             char_pos,
             byte_pos,
-            row_ends,
-            tag_ends,
+            cell_starts,
+            cell_lengths,
             tag_bytes,
             a,
             place(line, 5),
@@ -257,8 +257,8 @@ fn look_up(
             boundaries,
             char_pos,
             byte_pos,
-            row_ends,
-            tag_ends,
+            cell_starts,
+            cell_lengths,
             tag_bytes,
             a,
             place(line, 5),
@@ -272,8 +272,8 @@ fn look_up(
         boundaries,
         char_pos,
         byte_pos,
-        row_ends,
-        tag_ends,
+        cell_starts,
+        cell_lengths,
         tag_bytes,
         a,
     ))
@@ -288,8 +288,8 @@ pub fn look(
     boundaries: &[u8],
     char_pos: &[u16],
     byte_pos: &[u16],
-    row_ends: &[u16],
-    tag_ends: &[u16],
+    cell_starts: &[u16],
+    cell_lengths: &[u16],
     tag_bytes: &[u8],
 ) -> Found {
     if first(line) == b'N' {
@@ -300,8 +300,8 @@ pub fn look(
             boundaries,
             char_pos,
             byte_pos,
-            row_ends,
-            tag_ends,
+            cell_starts,
+            cell_lengths,
             tag_bytes,
             place(line, 3),
         ));
@@ -314,8 +314,8 @@ pub fn look(
         boundaries,
         char_pos,
         byte_pos,
-        row_ends,
-        tag_ends,
+        cell_starts,
+        cell_lengths,
         tag_bytes,
     )
 }

@@ -21,7 +21,7 @@ fn told(a: Answer, sink: Sink) -> Sink {
                 .number_field(r.b as u64);
             begun
                 .number_field(r.columns as u64)
-                .number_field(r.k as u64)
+                .number_field(r.cells as u64)
                 .number_field(r.g as u64)
         }
         Answer::Refused(f) => render::refusal(f, sink),
@@ -53,12 +53,12 @@ fn front(h: Held, rooms: [usize; 8], sink: Sink) -> Sink {
 // The last four buffers.
 fn back(h: Held, rooms: [usize; 8], sink: Sink) -> Sink {
     let byte_pos = h.byte_pos;
-    let row_ends = h.row_ends;
-    let tag_ends = h.tag_ends;
+    let cell_starts = h.cell_starts;
+    let cell_lengths = h.cell_lengths;
     let tag_bytes = h.tag_bytes;
     let s1 = numbers(&byte_pos, rooms[4], sink);
-    let s2 = numbers(&row_ends, rooms[5], s1);
-    let s3 = numbers(&tag_ends, rooms[6], s2);
+    let s2 = numbers(&cell_starts, rooms[5], s1);
+    let s3 = numbers(&cell_lengths, rooms[6], s2);
     bytes(&tag_bytes, rooms[7], s3)
 }
 

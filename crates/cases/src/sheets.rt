@@ -12,6 +12,9 @@ use sheet::Record;
 use std::num::wrapping_add_usize;
 ghost use Prim.Native.Nat.{_≤_};
 
+// The cells that a long line has room for.
+const CELLS: usize = 400000;
+
 // The capital of a form's letter.
 fn capital(b: u8) -> u8 {
     if b < 97 {
@@ -55,8 +58,8 @@ fn told(
     boundaries: &[u8; MOST],
     char_pos: &[u16; MOST],
     byte_pos: &[u16; MOST],
-    row_ends: &[u16; MOST],
-    tag_ends: &[u16; MOST],
+    cell_starts: &[u16; MOST],
+    cell_lengths: &[u16; MOST],
     tag_bytes: &[u8; MOST],
     sink: Sink,
 ) -> Sink {
@@ -69,8 +72,8 @@ fn told(
             boundaries,
             char_pos,
             byte_pos,
-            row_ends,
-            tag_ends,
+            cell_starts,
+            cell_lengths,
             tag_bytes,
             sink,
         );
@@ -84,8 +87,8 @@ fn told(
             boundaries,
             char_pos,
             byte_pos,
-            row_ends,
-            tag_ends,
+            cell_starts,
+            cell_lengths,
             tag_bytes,
             sink,
         );
@@ -99,8 +102,8 @@ fn told(
         boundaries,
         char_pos,
         byte_pos,
-        row_ends,
-        tag_ends,
+        cell_starts,
+        cell_lengths,
         tag_bytes,
         sink,
     )
@@ -113,8 +116,8 @@ fn served(line: &[u8], r: Record, h: Held, sink: Sink) -> Sink {
     let mut boundaries = h.boundaries;
     let char_pos = h.char_pos;
     let byte_pos = h.byte_pos;
-    let mut row_ends = h.row_ends;
-    let tag_ends = h.tag_ends;
+    let mut cell_starts = h.cell_starts;
+    let mut cell_lengths = h.cell_lengths;
     let tag_bytes = h.tag_bytes;
     let a = calls::change(
         line,
@@ -124,8 +127,8 @@ fn served(line: &[u8], r: Record, h: Held, sink: Sink) -> Sink {
         &mut boundaries,
         &char_pos,
         &byte_pos,
-        &mut row_ends,
-        &tag_ends,
+        &mut cell_starts,
+        &mut cell_lengths,
         &tag_bytes,
     );
     told(
@@ -137,8 +140,8 @@ fn served(line: &[u8], r: Record, h: Held, sink: Sink) -> Sink {
         &boundaries,
         &char_pos,
         &byte_pos,
-        &row_ends,
-        &tag_ends,
+        &cell_starts,
+        &cell_lengths,
         &tag_bytes,
         sink,
     )
@@ -155,7 +158,50 @@ fn line_of(line: &[u8], bytes: &mut [u8]) -> usize {
     repeated(field(line, at), bytes)
 }
 
-// The line of a question, read into buffers that have room for every line.
+// A long line, by way of a sheet with more cells.
+fn long(line: &[u8], sink: Sink) -> Sink {
+    let mut bytes = [0u8; 5120];
+    let mut text = [0u8; MOST];
+    let mut types = [0u8; MOST];
+    let mut boundaries = [0u8; MOST];
+    let mut char_pos = [0u16; MOST];
+    let mut byte_pos = [0u16; MOST];
+    let mut cell_starts = [0u16; CELLS];
+    let mut cell_lengths = [0u16; CELLS];
+    let mut tag_bytes = [0u8; MOST];
+    let n = line_of(line, &mut bytes);
+    let a = asking::read_into(
+        form_of(line),
+        part(&bytes, 0, n),
+        &mut text,
+        &mut types,
+        &mut boundaries,
+        &mut char_pos,
+        &mut byte_pos,
+        &mut cell_starts,
+        &mut cell_lengths,
+        &mut tag_bytes,
+    );
+    match a {
+        Answer::Sentence(r) => render::sheets::sentence_told(
+            b'L',
+            a,
+            r,
+            &text,
+            &types,
+            &boundaries,
+            &char_pos,
+            &byte_pos,
+            &cell_starts,
+            &cell_lengths,
+            &tag_bytes,
+            sink,
+        ),
+        Answer::Refused(f) => refused(b'L', f, sink),
+    }
+}
+
+// The line of a question, read into buffers that have room for it.
 fn held(line: &[u8]) -> Held {
     let mut bytes = [0u8; 5120];
     let n = line_of(line, &mut bytes);
@@ -164,8 +210,11 @@ fn held(line: &[u8]) -> Held {
 
 // The answer to a question on a line.
 pub fn ask(line: &[u8], sink: Sink) -> Sink {
-    let h = held(line);
     let kind = first(line);
+    if kind == b'L' {
+        return long(line, sink);
+    }
+    let h = held(line);
     let a = h.answer;
     match a {
         Answer::Sentence(r) => {

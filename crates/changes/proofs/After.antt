@@ -1,8 +1,8 @@
 -- Where a change answers a sentence, its record and the buffers hold the changed sentence. Assumes nothing.
-use Prim.Native.Nat.{ℕ, _+_, _-_, _≤_}
+use Prim.Native.Nat.{ℕ, _+_, _-_, _*_, _≤_}
 use native.Mathlib.Omega.{arith}
 use mathlib.Core.Path.{_≡_, refl, sym, subst, ap, _∙_}
-use mathlib.Core.Bool.{true}
+use mathlib.Core.Bool.{true, false}
 use mathlib.Core.List.{List}
 use borrow.Author.Tests.{not-false, ltb-false}
 use lib.ListN.{length}
@@ -10,7 +10,7 @@ use Rattle.laws.proofs.Facts.{reads}
 use Rattle.utf8.specs.Utf8.{scalar, width, size}
 use Rattle.laws.specs.If.{if_then_else_}
 use Rattle.sentence.specs.declared.Refusal.{Refusal}
-use Rattle.sentence.specs.Sentence.{Sentence, text, rows, textOf, rowsOf, cut, listed, rowBytes, tagBytes, Formed}
+use Rattle.sentence.specs.Sentence.{Sentence, text, rows, count, textOf, rowsOf, cut, rowBytes, tagBytes, Formed}
 use Rattle.sentence.specs.Writing.{setBoundary, resetTags, blank}
 use Rattle.sentence.specs.Refusals.{Check, verdict}
 use Rattle.sheet.specs.declared.Record.{Record}
@@ -19,32 +19,42 @@ use Rattle.sheet.specs.declared.Answer.the-variants as answer
 use Rattle.sheet.specs.Layout.{Buffers, buffers, recordOf, laid, roomFor, Holds, spell, markOf}
 use Rattle.sheet.proofs.Held.{laid-holds}
 use Rattle.sheet.proofs.Exact.{is-sheet}
-use Rattle.sheet.proofs.Look.{bounds, Passed, passed}
-use Rattle.changes.specs.Changes.{Lays, DefaultSet, defaultAnswer, BoundarySet, boundaryAnswer, TagsReset, resetAnswer}
-use Rattle.changes.proofs.Changed.{text-set, rows-set, set-formed, text-bare, rows-bare, none-listed, no-tag-bytes, reset-formed}
+use Rattle.sheet.proofs.Look.{bounds, Passed, passed, neither}
+use Rattle.changes.specs.Changes.{Lays, DefaultSet, defaultAnswer, BoundarySet, boundaryAnswer, TagsReset, lackCells, resetAnswer}
+use Rattle.changes.proofs.Changed.{text-set, rows-set, set-formed, text-bare, rows-bare, no-tag-bytes, reset-formed}
 
 blank-formed : Formed blank
-unfolding blank textOf rowsOf size width listed rowBytes tagBytes cut scalar if_then_else_
-blank-formed = record { cells-are = (record { is-scalar = refl; not-nul = refl }, record { chars = tt; is-cut = refl; fits = omega arith }); text-fits = omega arith; columns-fit = omega arith; tags-fit = omega arith; bytes-fit = omega arith }
+unfolding blank textOf rowsOf size width rowBytes tagBytes cut scalar if_then_else_
+blank-formed = record { cells-are = (record { is-scalar = refl; not-nul = refl }, record { chars = tt; is-cut = refl; fits = omega arith }); text-fits = omega arith; columns-fit = omega arith; bytes-fit = omega arith }
 
 -- an answer that is a sentence is no refusal
 apart : (q : Record) (x : Refusal) → answer.Refused x ≡ answer.Sentence q → ⊥
 apart q x e = let z : _≡_ {A = ℕ} 0 1 = cc in omega arith
 
 roomy : (q : Record) (d : Buffers) → q .b ≤ length (d .text-buf) → q .n ≤ length (d .types-buf) → q .n - 1 ≤ length (d .boundaries-buf)
-    → q .n + 1 ≤ length (d .char-pos-buf) → q .b + 1 ≤ length (d .byte-pos-buf) → q .n ≤ length (d .row-ends-buf)
-    → q .k ≤ length (d .tag-ends-buf) → q .g ≤ length (d .tag-bytes-buf) → roomFor q d ≡ true
+    → q .n + 1 ≤ length (d .char-pos-buf) → q .b + 1 ≤ length (d .byte-pos-buf) → q .cells ≤ length (d .cell-starts-buf)
+    → q .cells ≤ length (d .cell-lengths-buf) → q .g ≤ length (d .tag-bytes-buf) → roomFor q d ≡ true
 unfolding roomFor
 roomy q d h₁ h₂ h₃ h₄ h₅ h₆ h₇ h₈ = simp reads (omega arith)
 
--- the room of a sentence whose text is the held one's, and that lists no more
-pub room-kept : {r : Record} {d : Buffers} {s : Sentence} → Holds r d s → (t : Sentence) → text t ≡ text s → listed (rows t) ≤ r .k → tagBytes (rows t) ≤ r .g → roomFor (recordOf t) d ≡ true
+-- the room of a sentence whose text is the held one's, and that has no more tag bytes, where there is room for its cells
+pub room-kept : {r : Record} {d : Buffers} {s : Sentence} → Holds r d s → (t : Sentence) → text t ≡ text s → r .n * t .columns ≤ length (d .cell-starts-buf) → r .n * t .columns ≤ length (d .cell-lengths-buf) → tagBytes (rows t) ≤ r .g → roomFor (recordOf t) d ≡ true
 unfolding recordOf
-room-kept {r} {d} {s} h t e k g =
+room-kept {r} {d} {s} h t e k l g =
     let b = bounds h in
     let n : length (text t) ≡ r .n = ap length e ∙ sym (b .n-is) in
     let m : size (text t) ≡ r .b = ap size e ∙ sym (b .b-is) in
+    let w : length (text t) * t .columns ≡ r .n * t .columns = ap (λ (i : ℕ). i * t .columns) n in
     roomy (recordOf t) d (omega arith) (omega arith) (omega arith) (omega arith) (omega arith) (omega arith) (omega arith) (omega arith)
+
+-- the held sentence's cells, by its columns
+kept-columns : {r : Record} {d : Buffers} {s : Sentence} → Holds r d s → r .n * s .columns ≡ r .cells
+kept-columns {r} {d} {s} h = let b = bounds h in rw (← (b .columns-is)) (sym (b .cells-is))
+
+-- room for cells that is not lacking
+pub cells-room : (d : Buffers) (n : ℕ) → lackCells d n ≡ false → (n ≤ length (d .cell-starts-buf)) × (n ≤ length (d .cell-lengths-buf))
+unfolding lackCells
+cells-room d n h = let k = neither _ _ h in (ltb-false _ n (k .0), ltb-false _ n (k .1))
 
 -- what is laid down is held
 pub lays-holds : (cs : List Check) (t : Sentence) (d : Buffers) (a : Answer) (e : Buffers) (q : Record)
@@ -59,7 +69,7 @@ lays-holds cs t d a e q l h fits =
     subst (λ (y : Buffers). Holds q y t) same (rw x at (laid-holds t d (f .0) (f .1)))
   where
     whole : Buffers → Buffers
-    whole y = buffers (y .text-buf) (y .types-buf) (y .boundaries-buf) (y .char-pos-buf) (y .byte-pos-buf) (y .row-ends-buf) (y .tag-ends-buf) (y .tag-bytes-buf)
+    whole y = buffers (y .text-buf) (y .types-buf) (y .boundaries-buf) (y .char-pos-buf) (y .byte-pos-buf) (y .cell-starts-buf) (y .cell-lengths-buf) (y .tag-bytes-buf)
 
 -- ---- each call
 pub default-holds : (d : Buffers) (a : Answer) (e : Buffers) (q : Record) → DefaultSet d a e → a ≡ answer.Sentence q → Holds q e blank
@@ -75,7 +85,7 @@ boundary-holds r d i v a e q l h =
     lays-holds _ (setBoundary i m s) d a e q l h (λ p.
     let k = is-sheet r d (not-false _ (p .0)) in
     let x = rows-set i m (s .cells) in
-    (set-formed i m s (k .formed), room-kept k (setBoundary i m s) (text-set i m (s .cells)) (rw x (omega (arith, bounds k))) (rw x (omega (arith, bounds k)))))
+    (set-formed i m s (k .formed), room-kept k (setBoundary i m s) (text-set i m (s .cells)) (omega (arith, bounds k .cells-is, kept-columns k, bounds k)) (omega (arith, bounds k .cells-is, kept-columns k, bounds k)) (rw x (omega (arith, bounds k)))))
 
 pub reset-holds : (r : Record) (d : Buffers) (c : ℕ) (a : Answer) (e : Buffers) (q : Record)
     → TagsReset r d c a e → a ≡ answer.Sentence q → Holds q e (resetTags c (spell r d))
@@ -85,4 +95,5 @@ reset-holds r d c a e q l h =
     lays-holds _ (resetTags c s) d a e q l h (λ p.
     let k = is-sheet r d (not-false _ (p .0)) in
     let x = rows-bare (s .cells) in
-    (reset-formed c s (ltb-false 4096 c (p .1 .0)) (k .formed), room-kept k (resetTags c s) (text-bare (s .cells)) (rw (x, none-listed) (omega arith)) (rw (x, no-tag-bytes) (omega arith))))
+    let cells-fit = rw (← (bounds k .n-is)) at (cells-room d (count s * c) (p .1 .1 .0)) in
+    (reset-formed c s (ltb-false 4096 c (p .1 .0)) (k .formed), room-kept k (resetTags c s) (text-bare (s .cells)) (cells-fit .0) (cells-fit .1) (rw (x, no-tag-bytes) (omega arith))))

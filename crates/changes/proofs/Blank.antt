@@ -12,20 +12,20 @@ use Rattle.laws.specs.Put.{put-front}
 use Rattle.laws.proofs.Facts.{reads}
 use Rattle.utf8.specs.Utf8.{width, encode, encodes, size}
 use Rattle.types.specs.TypeOf.{find, ranges, typeOf}
-use Rattle.sentence.specs.Sentence.{textOf, marksOf, rowsOf, starts, numbers, listed, rowBytes, tagBytes}
+use Rattle.sentence.specs.Sentence.{textOf, marksOf, rowsOf, starts, numbers, pad, rowBytes, tagBytes}
 use Rattle.sentence.specs.Writing.{blank}
 use Rattle.sentence.specs.Refusals.{verdict}
-use Rattle.sheet.specs.Layout.{Buffers, buffers, recordOf, tagsOf, rowEnds, tagEnds, bytesOf, lay, laid, roomFor}
+use Rattle.sheet.specs.Layout.{Buffers, buffers, recordOf, tagsOf, cellsOf, cellStarts, bytesOf, lay, laid, roomFor}
 use Rattle.sheet.specs.declared.Answer.the-variants as answer
 use Rattle.changes.specs.Changes.{DefaultSet, defaultAnswer}
 
 -- the room, by the lengths that the code tests
 abbrev pub fits : Buffers → Bool
-fits d = leb 1 (length (d .text-buf)) && leb 1 (length (d .types-buf)) && leb 2 (length (d .char-pos-buf)) && leb 2 (length (d .byte-pos-buf)) && leb 1 (length (d .row-ends-buf))
+fits d = leb 1 (length (d .text-buf)) && leb 1 (length (d .types-buf)) && leb 2 (length (d .char-pos-buf)) && leb 2 (length (d .byte-pos-buf))
 
 -- boundaries and tags need no room
 pub room-is : (d : Buffers) → roomFor (recordOf blank) d ≡ fits d
-unfolding blank recordOf roomFor textOf rowsOf size width listed rowBytes tagBytes if_then_else_
+unfolding blank recordOf roomFor textOf rowsOf size width rowBytes tagBytes if_then_else_
 room-is d = simp (leb·zero, and-true)
 
 -- what the tests say of the lengths
@@ -34,7 +34,6 @@ pub record Room (d : Buffers) : Type 0 where
   pub types-room : 1 ≤ length (d .types-buf)
   pub char-pos-room : 2 ≤ length (d .char-pos-buf)
   pub byte-pos-room : 2 ≤ length (d .byte-pos-buf)
-  pub row-ends-room : 1 ≤ length (d .row-ends-buf)
 
 pub room : (d : Buffers) → fits d ≡ true → Room d
 room d = simp reads (omega arith)
@@ -49,16 +48,16 @@ blank-refused d r e h = record {
   boundaries-is = refl;
   char-pos-is = refl;
   byte-pos-is = refl;
-  row-ends-is = refl;
-  tag-ends-is = refl;
+  cell-starts-is = refl;
+  cell-lengths-is = refl;
   tag-bytes-is = refl;
 }
 
 -- and the way that lays the sentence down
 pub blank-laid : (d : Buffers) (r : Bool) → r ≡ fits d → not r ≡ false
-    → DefaultSet d (answer.Sentence (record { n = 1; b = 1; columns = 0; k = 0; g = 0 }))
-    (buffers (set (d .text-buf) 0 32) (set (d .types-buf) 0 6) (d .boundaries-buf) (set (set (d .char-pos-buf) 0 0) 1 1) (set (set (d .byte-pos-buf) 0 0) 1 1) (set (d .row-ends-buf) 0 0) (d .tag-ends-buf) (d .tag-bytes-buf))
-unfolding defaultAnswer verdict if_then_else_ blank recordOf lay laid textOf marksOf rowsOf starts numbers size width encode encodes find ranges typeOf listed rowBytes tagBytes tagsOf rowEnds tagEnds bytesOf
+    → DefaultSet d (answer.Sentence (record { n = 1; b = 1; columns = 0; cells = 0; g = 0 }))
+    (buffers (set (d .text-buf) 0 32) (set (d .types-buf) 0 6) (d .boundaries-buf) (set (set (d .char-pos-buf) 0 0) 1 1) (set (set (d .byte-pos-buf) 0 0) 1 1) (d .cell-starts-buf) (d .cell-lengths-buf) (d .tag-bytes-buf))
+unfolding defaultAnswer verdict if_then_else_ blank recordOf lay laid textOf marksOf rowsOf starts numbers size width encode encodes find ranges typeOf rowBytes tagBytes tagsOf cellsOf pad cellStarts bytesOf
 blank-laid d r e h =
     let k = room d (sym e ∙ not-false r h) in
     record {
@@ -68,8 +67,8 @@ blank-laid d r e h =
       boundaries-is = refl;
       char-pos-is = put-front (0 ∷ 1 ∷ []) (d .char-pos-buf) (k .char-pos-room);
       byte-pos-is = put-front (0 ∷ 1 ∷ []) (d .byte-pos-buf) (k .byte-pos-room);
-      row-ends-is = put-front (0 ∷ []) (d .row-ends-buf) (k .row-ends-room);
-      tag-ends-is = refl;
+      cell-starts-is = refl;
+      cell-lengths-is = refl;
       tag-bytes-is = refl;
     }
 

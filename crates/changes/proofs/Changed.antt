@@ -4,7 +4,7 @@ use native.Mathlib.Omega.{arith}
 use mathlib.Core.Path.{_≡_, refl}
 use mathlib.Core.List.{List, [], _∷_}
 use lib.ListN.{length, replicate, set}
-use Rattle.sentence.specs.Sentence.{Mark, Cells, final, cell, Sentence, textOf, marksOf, rowsOf, cut, listed, rowBytes, tagBytes, Row, CellsOf, Formed}
+use Rattle.sentence.specs.Sentence.{Mark, Cells, final, cell, Sentence, textOf, marksOf, rowsOf, cut, rowBytes, tagBytes, Row, CellsOf, Formed}
 use Rattle.sentence.specs.Writing.{bare, marked, resetTags, setMark, setBoundary}
 
 -- ---- a boundary that is set
@@ -57,11 +57,6 @@ unfolding bare
 cells-bare n k (final c r) h = (h .0, no-row k)
 cells-bare n k (cell c r m s) h = (h .0, no-row k, cells-bare n k s (h .2))
 
-pub none-listed : (n : ℕ) → listed (replicate n []) ≡ 0
-unfolding listed
-none-listed zero = refl
-none-listed (suc n) = omega (arith, none-listed n)
-
 pub no-tag-bytes : (n : ℕ) → tagBytes (replicate n []) ≡ 0
 unfolding tagBytes rowBytes
 no-tag-bytes zero = refl
@@ -100,7 +95,6 @@ set-formed i m s f = record {
   cells-are = cells-set (s .columns) i m (s .cells) (f .cells-are);
   text-fits = rw (text-set i m (s .cells)) (f .text-fits);
   columns-fit = f .columns-fit;
-  tags-fit = rw (rows-set i m (s .cells)) (f .tags-fit);
   bytes-fit = rw (rows-set i m (s .cells)) (f .bytes-fit);
 }
 
@@ -110,7 +104,6 @@ reset-formed c s h f = record {
   cells-are = cells-bare (s .columns) c (s .cells) (f .cells-are);
   text-fits = rw (text-bare (s .cells)) (f .text-fits);
   columns-fit = h;
-  tags-fit = rw (rows-bare (s .cells), none-listed) (omega arith);
   bytes-fit = rw (rows-bare (s .cells), no-tag-bytes) (omega arith);
 }
 
@@ -119,6 +112,5 @@ marked-formed ms s f = record {
   cells-are = cells-marked (s .columns) ms (s .cells) (f .cells-are);
   text-fits = rw (text-marked ms (s .cells)) (f .text-fits);
   columns-fit = f .columns-fit;
-  tags-fit = rw (rows-marked ms (s .cells)) (f .tags-fit);
   bytes-fit = rw (rows-marked ms (s .cells)) (f .bytes-fit);
 }

@@ -1,20 +1,21 @@
 -- What buffers that hold a sentence become where another is laid over it: what both have in common stays. Assumes nothing.
-use Prim.Native.Nat.{ℕ, zero, suc, _+_, _-_, _≤_, _<_}
+use Prim.Native.Nat.{ℕ, zero, suc, _+_, _-_, _*_, _≤_, _<_}
 use native.Mathlib.Omega.{arith}
 use mathlib.Core.Path.{_≡_, refl, sym, ap, _∙_}
 use mathlib.Core.List.{List, [], _∷_, _++_, map}
-use lib.ListN.{length, drop, replicate, set, length-set, length-replicate}
+use lib.ListN.{length, drop, replicate, set, length-set, length-replicate, replicate-append-replicate}
 use lib.Seq.{set-append-left}
 use Rattle.laws.specs.Put.{over}
-use Rattle.sentence.specs.Sentence.{code, Sentence, text, marks, rows}
+use Rattle.utf8.specs.Utf8.{size}
+use Rattle.sentence.specs.Sentence.{code, Sentence, text, marks, rows, pad}
 use Rattle.sentence.specs.Writing.{setBoundary, resetTags}
 use Rattle.sheet.specs.declared.Record.{Record}
-use Rattle.sheet.specs.Layout.{Buffers, buffers, recordOf, tagsOf, rowEnds, tagEnds, bytesOf, lay, laid, Holds, markOf}
-use Rattle.sheet.proofs.Held.{Part, text-held, types-held, boundaries-held, char-pos-held, byte-pos-held, row-ends-held, tag-ends-held, tag-bytes-held}
+use Rattle.sheet.specs.Layout.{Buffers, buffers, recordOf, tagsOf, cellsOf, cellStarts, bytesOf, lay, laid, Holds, markOf}
+use Rattle.sheet.proofs.Held.{Part, text-held, types-held, boundaries-held, char-pos-held, byte-pos-held, cell-starts-held, cell-lengths-held, tag-bytes-held}
 use Rattle.sheet.proofs.Look.{bounds, part-whole, part-length}
 use Rattle.sheet.specs.declared.Answer.the-variants as answer
 use Rattle.changes.specs.Changes.{Laid}
-use Rattle.changes.proofs.Changed.{text-set, rows-set, marks-set, text-bare, marks-bare, rows-bare, none-listed, no-tag-bytes}
+use Rattle.changes.proofs.Changed.{text-set, rows-set, marks-set, text-bare, marks-bare, rows-bare, no-tag-bytes}
 
 -- a part laid over a buffer that starts with it
 over-same : {n : ℕ} {p d : List ℕ} → Part n p d → over p d ≡ d
@@ -39,11 +40,24 @@ code-back (suc zero) h = refl
 code-back (suc (suc zero)) h = refl
 code-back (suc (suc (suc v))) h = absurd (omega arith)
 
--- no row lists a tag
-no-ends : (n : ℕ) → rowEnds 0 (replicate n []) ≡ replicate n 0
-unfolding rowEnds
-no-ends zero = refl
-no-ends (suc n) = rw (no-ends n)
+-- rows that list no tag have absent cells, which take no bytes
+no-cells : (c n : ℕ) → cellsOf c (replicate n []) ≡ replicate (n * c) []
+unfolding cellsOf pad
+no-cells c zero = let e : zero * c ≡ 0 = omega arith in rw e
+no-cells c (suc n) =
+    let e : c - 0 ≡ c = omega arith in
+    let f : c + n * c ≡ suc n * c = omega arith in
+    rw (e, no-cells c n, replicate-append-replicate, f)
+
+no-starts : (n : ℕ) → cellStarts 0 (replicate n []) ≡ replicate n 0
+unfolding cellStarts size
+no-starts zero = refl
+no-starts (suc n) = rw (no-starts n)
+
+no-lengths : (n : ℕ) → map size (replicate n []) ≡ replicate n 0
+unfolding size
+no-lengths zero = refl
+no-lengths (suc n) = rw (no-lengths n)
 
 no-tags : (n : ℕ) → tagsOf (replicate n []) ≡ []
 unfolding tagsOf
@@ -88,14 +102,14 @@ module _ {r : Record} {d : Buffers} {s : Sentence} (h : Holds r d s) where
   unfolding lay laid
   boundaries-kept t e = rw e (over-same (boundaries-held h))
 
-  module _ (t : Sentence) (e : rows t ≡ rows s) where
-    pub row-ends-kept : laid t d .row-ends-buf ≡ d .row-ends-buf
+  module _ (t : Sentence) (e : rows t ≡ rows s) (w : t .columns ≡ s .columns) where
+    pub cell-starts-kept : laid t d .cell-starts-buf ≡ d .cell-starts-buf
     unfolding lay laid
-    row-ends-kept = rw e (over-same (row-ends-held h))
+    cell-starts-kept = rw (e, w) (over-same (cell-starts-held h))
 
-    pub tag-ends-kept : laid t d .tag-ends-buf ≡ d .tag-ends-buf
+    pub cell-lengths-kept : laid t d .cell-lengths-buf ≡ d .cell-lengths-buf
     unfolding lay laid
-    tag-ends-kept = rw e (over-same (tag-ends-held h))
+    cell-lengths-kept = rw (e, w) (over-same (cell-lengths-held h))
 
     pub tag-bytes-kept : laid t d .tag-bytes-buf ≡ d .tag-bytes-buf
     unfolding lay laid
@@ -110,13 +124,13 @@ module _ {r : Record} {d : Buffers} {s : Sentence} (h : Holds r d s) where
 
   -- ---- tags that are reset
   module _ (t : Sentence) (e : rows t ≡ replicate (r .n) []) where
-    pub row-ends-reset : laid t d .row-ends-buf ≡ over (replicate (r .n) 0) (d .row-ends-buf)
+    pub cell-starts-reset : laid t d .cell-starts-buf ≡ over (replicate (r .n * t .columns) 0) (d .cell-starts-buf)
     unfolding lay laid
-    row-ends-reset = rw (e, no-ends)
+    cell-starts-reset = rw (e, no-cells, no-starts)
 
-    pub tag-ends-reset : laid t d .tag-ends-buf ≡ d .tag-ends-buf
-    unfolding lay laid tagEnds
-    tag-ends-reset = rw (e, no-tags)
+    pub cell-lengths-reset : laid t d .cell-lengths-buf ≡ over (replicate (r .n * t .columns) 0) (d .cell-lengths-buf)
+    unfolding lay laid
+    cell-lengths-reset = rw (e, no-cells, no-lengths)
 
     pub tag-bytes-reset : laid t d .tag-bytes-buf ≡ d .tag-bytes-buf
     unfolding lay laid bytesOf
@@ -125,7 +139,7 @@ module _ {r : Record} {d : Buffers} {s : Sentence} (h : Holds r d s) where
   -- ---- what the calls leave
   pub boundary-lays : (i v : ℕ) → i < r .n - 1 → v ≤ 2
       → Laid (setBoundary i (markOf v) s) d (answer.Sentence r)
-      (buffers (d .text-buf) (d .types-buf) (set (d .boundaries-buf) i v) (d .char-pos-buf) (d .byte-pos-buf) (d .row-ends-buf) (d .tag-ends-buf) (d .tag-bytes-buf))
+      (buffers (d .text-buf) (d .types-buf) (set (d .boundaries-buf) i v) (d .char-pos-buf) (d .byte-pos-buf) (d .cell-starts-buf) (d .cell-lengths-buf) (d .tag-bytes-buf))
   unfolding recordOf setBoundary
   boundary-lays i v k l =
       let t = setBoundary i (markOf v) s in
@@ -138,29 +152,29 @@ module _ {r : Record} {d : Buffers} {s : Sentence} (h : Holds r d s) where
         boundaries-is = sym (boundary-laid i v k l);
         char-pos-is = sym (char-pos-kept t x);
         byte-pos-is = sym (byte-pos-kept t x);
-        row-ends-is = sym (row-ends-kept t y);
-        tag-ends-is = sym (tag-ends-kept t y);
-        tag-bytes-is = sym (tag-bytes-kept t y);
+        cell-starts-is = sym (cell-starts-kept t y refl);
+        cell-lengths-is = sym (cell-lengths-kept t y refl);
+        tag-bytes-is = sym (tag-bytes-kept t y refl);
       }
 
-  pub reset-lays : (c : ℕ) (ends : List ℕ) → ends ≡ replicate (r .n) 0 ++ drop (r .n) (d .row-ends-buf)
-      → Laid (resetTags c s) d (answer.Sentence (record { n = r .n; b = r .b; columns = c; k = 0; g = 0 }))
-      (buffers (d .text-buf) (d .types-buf) (d .boundaries-buf) (d .char-pos-buf) (d .byte-pos-buf) ends (d .tag-ends-buf) (d .tag-bytes-buf))
+  pub reset-lays : (c : ℕ) (b l : List ℕ) → b ≡ replicate (r .n * c) 0 ++ drop (r .n * c) (d .cell-starts-buf) → l ≡ replicate (r .n * c) 0 ++ drop (r .n * c) (d .cell-lengths-buf)
+      → Laid (resetTags c s) d (answer.Sentence (record { n = r .n; b = r .b; columns = c; cells = r .n * c; g = 0 }))
+      (buffers (d .text-buf) (d .types-buf) (d .boundaries-buf) (d .char-pos-buf) (d .byte-pos-buf) b l (d .tag-bytes-buf))
   unfolding recordOf resetTags
-  reset-lays c ends e =
+  reset-lays c v l e f =
       let t = resetTags c s in
       let x : text t ≡ text s = text-bare (s .cells) in
       let n = bounds h .n-is in
       let b = bounds h .b-is in
       let y : rows t ≡ replicate (r .n) [] = rw n (rows-bare (s .cells)) in
       record {
-        answer-is = rw (x, y, none-listed, no-tag-bytes, ← n, ← b);
+        answer-is = rw (x, y, no-tag-bytes, ← n, ← b);
         text-is = sym (text-kept t x);
         types-is = sym (types-kept t x);
         boundaries-is = sym (boundaries-kept t (marks-bare (s .cells)));
         char-pos-is = sym (char-pos-kept t x);
         byte-pos-is = sym (byte-pos-kept t x);
-        row-ends-is = e ∙ sym (row-ends-reset t y ∙ rw length-replicate);
-        tag-ends-is = sym (tag-ends-reset t y);
+        cell-starts-is = e ∙ sym (cell-starts-reset t y ∙ rw length-replicate);
+        cell-lengths-is = f ∙ sym (cell-lengths-reset t y ∙ rw length-replicate);
         tag-bytes-is = sym (tag-bytes-reset t y);
       }

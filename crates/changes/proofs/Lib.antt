@@ -3,3 +3,4 @@ pub mod Outcome
 pub mod Changed
 pub mod Kept
 pub mod After
+pub mod Resets

@@ -13,7 +13,7 @@ lays-once {e} {e′} p q =
     (cc, same)
   where
     whole : Buffers → Buffers
-    whole x = buffers (x .text-buf) (x .types-buf) (x .boundaries-buf) (x .char-pos-buf) (x .byte-pos-buf) (x .row-ends-buf) (x .tag-ends-buf) (x .tag-bytes-buf)
+    whole x = buffers (x .text-buf) (x .types-buf) (x .boundaries-buf) (x .char-pos-buf) (x .byte-pos-buf) (x .cell-starts-buf) (x .cell-lengths-buf) (x .tag-bytes-buf)
 
 -- a refusal leaves the buffers as they were
 pub lays-refused : (a : Answer) (s : Sentence) (d : Buffers) (x : Refusal) → answer.Refused x ≡ a → Lays a s d (answer.Refused x) d
@@ -24,8 +24,8 @@ lays-refused a s d x e = record {
   boundaries-is = refl;
   char-pos-is = refl;
   byte-pos-is = refl;
-  row-ends-is = refl;
-  tag-ends-is = refl;
+  cell-starts-is = refl;
+  cell-lengths-is = refl;
   tag-bytes-is = refl;
 }
 

@@ -1,9 +1,10 @@
 -- What the calls that change a sentence in its buffers answer, and what they leave.
-use Prim.Native.Nat.{ℕ, _-_}
+use Prim.Native.Nat.{ℕ, _-_, _*_}
 use mathlib.Core.Path.{_≡_}
 use mathlib.Core.Bool.{Bool, false, not, _||_}
 use mathlib.Core.List.{List, [], _∷_}
 use lib.Dec.{leb, ltb}
+use lib.ListN.{length}
 use Rattle.sentence.specs.Sentence.{Sentence, count}
 use Rattle.sentence.specs.Writing.{setBoundary, resetTags, blank}
 use Rattle.sentence.specs.Refusals.{check, verdict, sheetOrder}
@@ -26,8 +27,8 @@ pub record Lays (a : Answer) (s : Sentence) (d : Buffers) (r : Answer) (e : Buff
   pub boundaries-is : e .boundaries-buf ≡ after r (laid s d .boundaries-buf) (d .boundaries-buf)
   pub char-pos-is : e .char-pos-buf ≡ after r (laid s d .char-pos-buf) (d .char-pos-buf)
   pub byte-pos-is : e .byte-pos-buf ≡ after r (laid s d .byte-pos-buf) (d .byte-pos-buf)
-  pub row-ends-is : e .row-ends-buf ≡ after r (laid s d .row-ends-buf) (d .row-ends-buf)
-  pub tag-ends-is : e .tag-ends-buf ≡ after r (laid s d .tag-ends-buf) (d .tag-ends-buf)
+  pub cell-starts-is : e .cell-starts-buf ≡ after r (laid s d .cell-starts-buf) (d .cell-starts-buf)
+  pub cell-lengths-is : e .cell-lengths-buf ≡ after r (laid s d .cell-lengths-buf) (d .cell-lengths-buf)
   pub tag-bytes-is : e .tag-bytes-buf ≡ after r (laid s d .tag-bytes-buf) (d .tag-bytes-buf)
 
 -- the same of a call that always lays s down
@@ -51,10 +52,15 @@ boundaryAnswer good s i v =
 abbrev pub BoundarySet : Record → Buffers → ℕ → ℕ → Answer → Buffers → Type 0
 BoundarySet r d i v a e = Lays (boundaryAnswer (isSheet r d) (spell r d) i v) (setBoundary i (markOf v) (spell r d)) d a e
 
--- c is at most 4,096
-unfoldable pub resetAnswer : Bool → Sentence → ℕ → Answer
-resetAnswer good s c = verdict answer.Refused (sheetOrder (not good) (ltb 4096 c) c false 0) (answer.Sentence (recordOf (resetTags c s)))
+-- the buffers lack room for n cells
+unfoldable pub lackCells : Buffers → ℕ → Bool
+lackCells d n = ltb (length (d .cell-starts-buf)) n || ltb (length (d .cell-lengths-buf)) n
+
+-- c is at most 4,096, and there is room for N times c cells: 13, 14, 11
+unfoldable pub resetAnswer : Bool → Sentence → ℕ → Buffers → Answer
+resetAnswer good s c d =
+    verdict answer.Refused (check (not good) 13 0 ∷ check (ltb 4096 c) 14 c ∷ check (lackCells d (count s * c)) 11 0 ∷ []) (answer.Sentence (recordOf (resetTags c s)))
 
 -- what `reset_tags` answers, and the buffers e that it leaves of d
 abbrev pub TagsReset : Record → Buffers → ℕ → Answer → Buffers → Type 0
-TagsReset r d c a e = Lays (resetAnswer (isSheet r d) (spell r d) c) (resetTags c (spell r d)) d a e
+TagsReset r d c a e = Lays (resetAnswer (isSheet r d) (spell r d) c d) (resetTags c (spell r d)) d a e

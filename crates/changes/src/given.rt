@@ -3,7 +3,7 @@ use sheet::Answer;
 use sheet::Record;
 ghost use mathlib.Core.Path.{_≡_};
 ghost use mathlib.Core.List.{_++_};
-ghost use Prim.Native.Nat.{_-_, _≤_, _<_};
+ghost use Prim.Native.Nat.{_-_, _*_, _≤_, _<_};
 ghost use lib.ListN.{length, drop, replicate};
 ghost use Rattle.sentence.specs.Writing.{setBoundary, resetTags};
 ghost use Rattle.sheet.specs.Layout.{buffers, spell, Sheet, markOf};
@@ -17,27 +17,27 @@ pub fn set_boundary(
     boundaries: &mut [u8],
     char_pos: &[u16],
     byte_pos: &[u16],
-    row_ends: &[u16],
-    tag_ends: &[u16],
+    cell_starts: &[u16],
+    cell_lengths: &[u16],
     tag_bytes: &[u8],
     i: usize,
     value: u8,
 ) -> Answer
-    requires { ⌜ Sheet r (buffers (now text) (now types) (now boundaries) (now «char_pos») (now «byte_pos») (now «row_ends») (now «tag_ends») (now «tag_bytes»)) × (i < r .n - 1) × (value ≤ 2) ⌝ }
-    ensures { λ a. ⌜ Laid (setBoundary i (markOf value) (spell r (buffers (now (text .entry)) (now (types .entry)) (now (boundaries .entry)) (now («char_pos» .entry)) (now («byte_pos» .entry)) (now («row_ends» .entry)) (now («tag_ends» .entry)) (now («tag_bytes» .entry))))) (buffers (now (text .entry)) (now (types .entry)) (now (boundaries .entry)) (now («char_pos» .entry)) (now («byte_pos» .entry)) (now («row_ends» .entry)) (now («tag_ends» .entry)) (now («tag_bytes» .entry))) a (buffers (now (text .entry)) (now (types .entry)) (now (boundaries .exit)) (now («char_pos» .entry)) (now («byte_pos» .entry)) (now («row_ends» .entry)) (now («tag_ends» .entry)) (now («tag_bytes» .entry))) ⌝ }
+    requires { ⌜ Sheet r (buffers (now text) (now types) (now boundaries) (now «char_pos») (now «byte_pos») (now «cell_starts») (now «cell_lengths») (now «tag_bytes»)) × (i < r .n - 1) × (value ≤ 2) ⌝ }
+    ensures { λ a. ⌜ Laid (setBoundary i (markOf value) (spell r (buffers (now (text .entry)) (now (types .entry)) (now (boundaries .entry)) (now («char_pos» .entry)) (now («byte_pos» .entry)) (now («cell_starts» .entry)) (now («cell_lengths» .entry)) (now («tag_bytes» .entry))))) (buffers (now (text .entry)) (now (types .entry)) (now (boundaries .entry)) (now («char_pos» .entry)) (now («byte_pos» .entry)) (now («cell_starts» .entry)) (now («cell_lengths» .entry)) (now («tag_bytes» .entry))) a (buffers (now (text .entry)) (now (types .entry)) (now (boundaries .exit)) (now («char_pos» .entry)) (now («byte_pos» .entry)) (now («cell_starts» .entry)) (now («cell_lengths» .entry)) (now («tag_bytes» .entry))) ⌝ }
 {
     boundaries[i] = value;
     Answer::Sentence(r)
 }
 
-// The first n row ends become 0.
-pub fn clear(row_ends: &mut [u16], n: usize)
-    requires { ⌜ n ≤ length (now «row_ends») ⌝ }
-    ensures { λ _. ⌜ now («row_ends» .exit) ≡ replicate n 0 ++ drop n (now («row_ends» .entry)) ⌝ }
+// The first n numbers become 0.
+fn clear(cells: &mut [u16], n: usize)
+    requires { ⌜ n ≤ length (now cells) ⌝ }
+    ensures { λ _. ⌜ now (cells .exit) ≡ replicate n 0 ++ drop n (now (cells .entry)) ⌝ }
 {
     let mut i = 0;
     while i < n {
-        row_ends[i] = 0;
+        cells[i] = 0;
         i += 1;
     }
 }
@@ -50,20 +50,22 @@ pub fn reset_tags(
     boundaries: &[u8],
     char_pos: &[u16],
     byte_pos: &[u16],
-    row_ends: &mut [u16],
-    tag_ends: &[u16],
+    cell_starts: &mut [u16],
+    cell_lengths: &mut [u16],
     tag_bytes: &[u8],
     c: usize,
 ) -> Answer
-    requires { ⌜ Sheet r (buffers (now text) (now types) (now boundaries) (now «char_pos») (now «byte_pos») (now «row_ends») (now «tag_ends») (now «tag_bytes»)) ⌝ }
-    ensures { λ a. ⌜ Laid (resetTags c (spell r (buffers (now (text .entry)) (now (types .entry)) (now (boundaries .entry)) (now («char_pos» .entry)) (now («byte_pos» .entry)) (now («row_ends» .entry)) (now («tag_ends» .entry)) (now («tag_bytes» .entry))))) (buffers (now (text .entry)) (now (types .entry)) (now (boundaries .entry)) (now («char_pos» .entry)) (now («byte_pos» .entry)) (now («row_ends» .entry)) (now («tag_ends» .entry)) (now («tag_bytes» .entry))) a (buffers (now (text .entry)) (now (types .entry)) (now (boundaries .entry)) (now («char_pos» .entry)) (now («byte_pos» .entry)) (now («row_ends» .exit)) (now («tag_ends» .entry)) (now («tag_bytes» .entry))) ⌝ }
+    requires { ⌜ Sheet r (buffers (now text) (now types) (now boundaries) (now «char_pos») (now «byte_pos») (now «cell_starts») (now «cell_lengths») (now «tag_bytes»)) × (c ≤ 4096) × (r .n * c ≤ length (now «cell_starts»)) × (r .n * c ≤ length (now «cell_lengths»)) ⌝ }
+    ensures { λ a. ⌜ Laid (resetTags c (spell r (buffers (now (text .entry)) (now (types .entry)) (now (boundaries .entry)) (now («char_pos» .entry)) (now («byte_pos» .entry)) (now («cell_starts» .entry)) (now («cell_lengths» .entry)) (now («tag_bytes» .entry))))) (buffers (now (text .entry)) (now (types .entry)) (now (boundaries .entry)) (now («char_pos» .entry)) (now («byte_pos» .entry)) (now («cell_starts» .entry)) (now («cell_lengths» .entry)) (now («tag_bytes» .entry))) a (buffers (now (text .entry)) (now (types .entry)) (now (boundaries .entry)) (now («char_pos» .entry)) (now («byte_pos» .entry)) (now («cell_starts» .exit)) (now («cell_lengths» .exit)) (now («tag_bytes» .entry))) ⌝ }
 {
-    clear(row_ends, r.n);
+    let cells = r.n * c;
+    clear(cell_starts, cells);
+    clear(cell_lengths, cells);
     Answer::Sentence(Record {
         n: r.n,
         b: r.b,
         columns: c,
-        k: 0,
+        cells,
         g: 0,
     })
 }

@@ -11,10 +11,10 @@ ghost use Rattle.changes.specs.Changes.{DefaultSet, BoundarySet, TagsRes
 pub mod given;
 
 // Whether buffers of these lengths have the one-blank sentence's room; boundaries and tags need none.
-fn blank_fits(text: usize, types: usize, char_pos: usize, byte_pos: usize, row_ends: usize) -> bool
-    ensures { λ r. ⌜ r ≡ (leb 1 text && leb 1 types && leb 2 «char_pos» && leb 2 «byte_pos» && leb 1 «row_ends») ⌝ }
+fn blank_fits(text: usize, types: usize, char_pos: usize, byte_pos: usize) -> bool
+    ensures { λ r. ⌜ r ≡ (leb 1 text && leb 1 types && leb 2 «char_pos» && leb 2 «byte_pos») ⌝ }
 {
-    (1 <= text) & (1 <= types) & (2 <= char_pos) & (2 <= byte_pos) & (1 <= row_ends)
+    (1 <= text) & (1 <= types) & (2 <= char_pos) & (2 <= byte_pos)
 }
 
 // Lays the one-blank sentence down.
@@ -24,19 +24,13 @@ pub fn set_default(
     boundaries: &mut [u8],
     char_pos: &mut [u16],
     byte_pos: &mut [u16],
-    row_ends: &mut [u16],
-    tag_ends: &mut [u16],
+    cell_starts: &mut [u16],
+    cell_lengths: &mut [u16],
     tag_bytes: &mut [u8],
 ) -> Answer
-    ensures { λ r. ⌜ DefaultSet (buffers (now (text .entry)) (now (types .entry)) (now (boundaries .entry)) (now («char_pos» .entry)) (now («byte_pos» .entry)) (now («row_ends» .entry)) (now («tag_ends» .entry)) (now («tag_bytes» .entry))) r (buffers (now (text .exit)) (now (types .exit)) (now (boundaries .exit)) (now («char_pos» .exit)) (now («byte_pos» .exit)) (now («row_ends» .exit)) (now («tag_ends» .exit)) (now («tag_bytes» .exit))) ⌝ }
+    ensures { λ r. ⌜ DefaultSet (buffers (now (text .entry)) (now (types .entry)) (now (boundaries .entry)) (now («char_pos» .entry)) (now («byte_pos» .entry)) (now («cell_starts» .entry)) (now («cell_lengths» .entry)) (now («tag_bytes» .entry))) r (buffers (now (text .exit)) (now (types .exit)) (now (boundaries .exit)) (now («char_pos» .exit)) (now («byte_pos» .exit)) (now («cell_starts» .exit)) (now («cell_lengths» .exit)) (now («tag_bytes» .exit))) ⌝ }
 {
-    if !blank_fits(
-        text.len(),
-        types.len(),
-        char_pos.len(),
-        byte_pos.len(),
-        row_ends.len(),
-    ) {
+    if !blank_fits(text.len(), types.len(), char_pos.len(), byte_pos.len()) {
         return Answer::Refused(Refusal {
             number: 15,
             place: 0,
@@ -48,12 +42,11 @@ pub fn set_default(
     char_pos[1] = 1;
     byte_pos[0] = 0;
     byte_pos[1] = 1;
-    row_ends[0] = 0;
     Answer::Sentence(Record {
         n: 1,
         b: 1,
         columns: 0,
-        k: 0,
+        cells: 0,
         g: 0,
     })
 }
@@ -66,13 +59,13 @@ pub fn set_boundary(
     boundaries: &mut [u8],
     char_pos: &[u16],
     byte_pos: &[u16],
-    row_ends: &[u16],
-    tag_ends: &[u16],
+    cell_starts: &[u16],
+    cell_lengths: &[u16],
     tag_bytes: &[u8],
     i: usize,
     value: u8,
 ) -> Answer
-    ensures { λ a. ⌜ BoundarySet r (buffers (now (text .entry)) (now (types .entry)) (now (boundaries .entry)) (now («char_pos» .entry)) (now («byte_pos» .entry)) (now («row_ends» .entry)) (now («tag_ends» .entry)) (now («tag_bytes» .entry))) i value a (buffers (now (text .entry)) (now (types .entry)) (now (boundaries .exit)) (now («char_pos» .entry)) (now («byte_pos» .entry)) (now («row_ends» .entry)) (now («tag_ends» .entry)) (now («tag_bytes» .entry))) ⌝ }
+    ensures { λ a. ⌜ BoundarySet r (buffers (now (text .entry)) (now (types .entry)) (now (boundaries .entry)) (now («char_pos» .entry)) (now («byte_pos» .entry)) (now («cell_starts» .entry)) (now («cell_lengths» .entry)) (now («tag_bytes» .entry))) i value a (buffers (now (text .entry)) (now (types .entry)) (now (boundaries .exit)) (now («char_pos» .entry)) (now («byte_pos» .entry)) (now («cell_starts» .entry)) (now («cell_lengths» .entry)) (now («tag_bytes» .entry))) ⌝ }
 {
     if !sheet::check(
         r,
@@ -81,8 +74,8 @@ pub fn set_boundary(
         boundaries,
         char_pos,
         byte_pos,
-        row_ends,
-        tag_ends,
+        cell_starts,
+        cell_lengths,
         tag_bytes,
     ) {
         return Answer::Refused(Refusal {
@@ -103,8 +96,8 @@ pub fn set_boundary(
         boundaries,
         char_pos,
         byte_pos,
-        row_ends,
-        tag_ends,
+        cell_starts,
+        cell_lengths,
         tag_bytes,
         i,
         value,
@@ -119,12 +112,12 @@ pub fn reset_tags(
     boundaries: &[u8],
     char_pos: &[u16],
     byte_pos: &[u16],
-    row_ends: &mut [u16],
-    tag_ends: &[u16],
+    cell_starts: &mut [u16],
+    cell_lengths: &mut [u16],
     tag_bytes: &[u8],
     c: usize,
 ) -> Answer
-    ensures { λ a. ⌜ TagsReset r (buffers (now (text .entry)) (now (types .entry)) (now (boundaries .entry)) (now («char_pos» .entry)) (now («byte_pos» .entry)) (now («row_ends» .entry)) (now («tag_ends» .entry)) (now («tag_bytes» .entry))) c a (buffers (now (text .entry)) (now (types .entry)) (now (boundaries .entry)) (now («char_pos» .entry)) (now («byte_pos» .entry)) (now («row_ends» .exit)) (now («tag_ends» .entry)) (now («tag_bytes» .entry))) ⌝ }
+    ensures { λ a. ⌜ TagsReset r (buffers (now (text .entry)) (now (types .entry)) (now (boundaries .entry)) (now («char_pos» .entry)) (now («byte_pos» .entry)) (now («cell_starts» .entry)) (now («cell_lengths» .entry)) (now («tag_bytes» .entry))) c a (buffers (now (text .entry)) (now (types .entry)) (now (boundaries .entry)) (now («char_pos» .entry)) (now («byte_pos» .entry)) (now («cell_starts» .exit)) (now («cell_lengths» .exit)) (now («tag_bytes» .entry))) ⌝ }
 {
     if !sheet::check(
         r,
@@ -133,8 +126,8 @@ pub fn reset_tags(
         boundaries,
         char_pos,
         byte_pos,
-        row_ends,
-        tag_ends,
+        cell_starts,
+        cell_lengths,
         tag_bytes,
     ) {
         return Answer::Refused(Refusal {
@@ -148,6 +141,13 @@ pub fn reset_tags(
             place: c,
         });
     }
+    let cells = r.n * c;
+    if (cells > cell_starts.len()) | (cells > cell_lengths.len()) {
+        return Answer::Refused(Refusal {
+            number: 11,
+            place: 0,
+        });
+    }
     given::reset_tags(
         r,
         text,
@@ -155,8 +155,8 @@ pub fn reset_tags(
         boundaries,
         char_pos,
         byte_pos,
-        row_ends,
-        tag_ends,
+        cell_starts,
+        cell_lengths,
         tag_bytes,
         c,
     )

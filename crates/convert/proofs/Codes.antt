@@ -16,7 +16,7 @@ use Rattle.sentence.specs.Reading.{Form, State, at, start, Run, whole, stopped,
 use Rattle.sentence.specs.Writing.{written}
 use Rattle.sentence.specs.Refusals.{refusal, verdict, hostOrder}
 use Rattle.sentence.proofs.Shape.{read-formed}
-use Rattle.passage.specs.Between.{Outcome, writes, refuses, formOf, between, answerOf, Converts}
+use Rattle.passage.specs.Between.{Outcome, writes, refuses, formOf, overfull, between, answerOf, Converts}
 use Rattle.convert.specs.Convert.{unknownForms, outOfRange, conversion, codeOf}
 use Rattle.passage.specs.declared.Converted.{Converted}
 use Rattle.passage.specs.declared.Converted.the-variants.{Wrote, Refused}
@@ -57,14 +57,15 @@ unfolding between hostOrder verdict
 between-small unknown outside f g room x = on (read f x) refl (read-near f x)
   where
     on : (r : Result) → read f x ≡ r → Near r
-        → Small (hostOrder refuses unknown outside (λ (s : Sentence). ltb room (length (written g s))) (λ (s : Sentence). length (written g s)) (λ (s : Sentence). writes (written g s)) r)
+        → Small (hostOrder refuses unknown outside overfull (λ (s : Sentence). ltb room (length (written g s))) (λ (s : Sentence). length (written g s)) (λ (s : Sentence). writes (written g s)) r)
     on (refused n p) e k =
         if-cases Small unknown _ _ (λ _. omega arith)
         (λ _. if-cases Small outside _ _ (λ _. omega arith) (λ _. if-cases Small true _ _ (λ _. omega arith) (λ _. omega arith)))
     on (sentence s) e k =
         if-cases Small unknown _ _ (λ _. omega arith)
         (λ _. if-cases Small outside _ _ (λ _. omega arith)
-        (λ _. if-cases Small (ltb room (length (written g s))) _ _ (λ _. written-small s ((read-formed f x s e) .0) g) (λ _. tt)))
+        (λ _. if-cases Small (overfull s) _ _ (λ _. omega arith)
+        (λ _. if-cases Small (ltb room (length (written g s))) _ _ (λ _. written-small s ((read-formed f x s e) .0) g) (λ _. tt))))
 
 pub small-place : (reader writer : ℕ) (x : List ℕ) (size place : ℕ) {out end : List ℕ} {r : Converted} {q : Refusal}
     → Converts (λ (c : Converted). c) (conversion reader writer x size place) place out r end → r ≡ Refused q → q .place < 2 ^ 32

@@ -16,7 +16,7 @@ use Rattle.sentence.specs.Sentence.{Sentence}
 use Rattle.sentence.specs.Reading.{Form, Result, sentence, refused, read}
 use Rattle.sentence.specs.Writing.{written}
 use Rattle.sentence.specs.Refusals.{refusal, verdict, hostOrder}
-use Rattle.passage.specs.Between.{Outcome, writes, refuses, formOf, between, answerOf, outputOf, Converts}
+use Rattle.passage.specs.Between.{Outcome, writes, refuses, formOf, overfull, between, answerOf, outputOf, Converts}
 use Rattle.convert.specs.Convert.{unknownForms, outOfRange, conversion}
 use Rattle.passage.specs.declared.Converted.{Converted}
 use Rattle.passage.specs.declared.Converted.the-variants.{Wrote, Refused}
@@ -36,7 +36,7 @@ between-unknown : (o : Bool) (f g : Form) (room : ℕ) (x : List ℕ) → betwee
 unfolding between hostOrder verdict if_then_else_
 between-unknown o f g room x = on (read f x)
   where
-    on : (y : Result) → hostOrder refuses true o (λ (s : Sentence). ltb room (length (written g s))) (λ (s : Sentence). length (written g s)) (λ (s : Sentence). writes (written g s)) y ≡ refuses (refusal 16 0)
+    on : (y : Result) → hostOrder refuses true o overfull (λ (s : Sentence). ltb room (length (written g s))) (λ (s : Sentence). length (written g s)) (λ (s : Sentence). writes (written g s)) y ≡ refuses (refusal 16 0)
     on (sentence s) = refl
     on (refused n p) = refl
 
@@ -44,7 +44,7 @@ between-outside : (f g : Form) (room : ℕ) (x : List ℕ) → between false tru
 unfolding between hostOrder verdict if_then_else_
 between-outside f g room x = on (read f x)
   where
-    on : (y : Result) → hostOrder refuses false true (λ (s : Sentence). ltb room (length (written g s))) (λ (s : Sentence). length (written g s)) (λ (s : Sentence). writes (written g s)) y ≡ refuses (refusal 14 0)
+    on : (y : Result) → hostOrder refuses false true overfull (λ (s : Sentence). ltb room (length (written g s))) (λ (s : Sentence). length (written g s)) (λ (s : Sentence). writes (written g s)) y ≡ refuses (refusal 14 0)
     on (sentence s) = refl
     on (refused n p) = refl
 

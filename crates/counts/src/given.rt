@@ -1,24 +1,18 @@
 // One act counted, of counts that are no larger than a line.
 use crate::Counts;
-use crate::Open;
 use reader::Act;
 use reader::Stepped;
 use sheet::Record;
 ghost use mathlib.Core.Path.{_≡_};
 ghost use Prim.Native.Nat.{_≤_, max};
 ghost use Rattle.reader.specs.Flags.{actOf};
-ghost use Rattle.counts.specs.Counts.{Small, passes, letters, opening, grows, tallyBy, counted};
+ghost use Rattle.counts.specs.Counts.{Small, opened, letters, opening, grows, tallyBy, counted};
 
-// The empty tags closed since the last present one, once another tag opens.
-fn passes(tag: Open, gaps: u16) -> u16
-    requires { ⌜ gaps ≤ 4096 ⌝ }
-    ensures { λ r. ⌜ r ≡ passes tag gaps ⌝ }
+// How many tags are open: one or none.
+pub fn opened(tag: bool) -> u32
+    ensures { λ r. ⌜ r ≡ opened tag ⌝ }
 {
-    match tag {
-        Open::No => 0,
-        Open::Empty => gaps + 1,
-        Open::Present => 0,
-    }
+    if tag { 1 } else { 0 }
 }
 
 // A character of the text.
@@ -26,16 +20,14 @@ fn letter(k: Counts, len: usize) -> Counts
     requires { ⌜ Small k 4096 × (len ≤ 4) ⌝ }
     ensures { λ r. ⌜ r ≡ letters len k ⌝ }
 {
-    let tag = k.tag;
     Counts {
         n: k.n + 1,
         b: k.b + len,
         columns: k.columns,
-        k: k.k + tag.ends(),
         g: k.g,
         tags: 0,
-        gaps: 0,
-        tag: Open::No,
+        long: 0,
+        tag: false,
     }
 }
 
@@ -50,17 +42,15 @@ fn opens(k: Counts) -> Counts
     requires { ⌜ Small k 4096 ⌝ }
     ensures { λ r. ⌜ r ≡ opening k ⌝ }
 {
-    let tag = k.tag;
-    let tags = k.tags + 1;
+    let tags = k.tags + opened(k.tag);
     Counts {
         n: k.n,
         b: k.b,
-        columns: max(k.columns, tags as usize),
-        k: k.k + tag.ends(),
+        columns: max(k.columns, (tags + 1) as usize),
         g: k.g,
         tags,
-        gaps: passes(tag, k.gaps),
-        tag: Open::Empty,
+        long: 0,
+        tag: true,
     }
 }
 
@@ -69,29 +59,18 @@ fn of_tag(k: Counts, len: usize) -> Counts
     requires { ⌜ Small k 4096 × (len ≤ 4) ⌝ }
     ensures { λ r. ⌜ r ≡ grows (k .tag) len k ⌝ }
 {
-    let tag = k.tag;
-    match tag {
-        Open::No => k,
-        Open::Empty => Counts {
+    if k.tag {
+        Counts {
             n: k.n,
             b: k.b,
             columns: k.columns,
-            k: k.k + k.gaps as usize,
             g: k.g + len,
             tags: k.tags,
-            gaps: 0,
-            tag: Open::Present,
-        },
-        Open::Present => Counts {
-            n: k.n,
-            b: k.b,
-            columns: k.columns,
-            k: k.k,
-            g: k.g + len,
-            tags: k.tags,
-            gaps: k.gaps,
-            tag: Open::Present,
-        },
+            long: k.long + len as u16,
+            tag: true,
+        }
+    } else {
+        k
     }
 }
 
@@ -109,17 +88,16 @@ pub fn tally(k: Counts, s: Stepped, len: usize) -> Counts
     }
 }
 
-// The record of what was counted; a present tag that is still open is listed.
+// The record of what was counted.
 pub fn total(k: Counts) -> Record
     requires { ⌜ Small k 4096 ⌝ }
     ensures { λ r. ⌜ r ≡ counted k ⌝ }
 {
-    let tag = k.tag;
     Record {
         n: k.n,
         b: k.b,
         columns: k.columns,
-        k: k.k + tag.ends(),
+        cells: k.n * k.columns,
         g: k.g,
     }
 }

@@ -1,4 +1,7 @@
 // Writes the answers.
+use crate::damage::at_most;
+use casework::Sink;
+use casework::part16;
 use sentence::Refusal;
 use sheet::Answer;
 use sheet::Number;
@@ -52,11 +55,21 @@ pub fn answer(a: Answer) {
             spaced(r.n);
             spaced(r.b);
             spaced(r.columns);
-            spaced(r.k);
+            spaced(r.cells);
             io::print_decimal(1, r.g as u64);
         }
         Answer::Refused(x) => {
             refusal(x);
         }
     }
+}
+
+// Writes what a change left of the buffers that it may alter: as much as is lent, eight elements at the most.
+pub fn left(boundaries: &[u8], cell_starts: &[u16], cell_lengths: &[u16]) {
+    let n2 = at_most(8, boundaries.len());
+    let n5 = at_most(8, cell_starts.len());
+    let n6 = at_most(8, cell_lengths.len());
+    let marks = Sink::new().digits_field(casework::part(boundaries, 0, n2));
+    let starts = marks.numbers_field(part16(cell_starts, 0, n5));
+    starts.numbers_field(part16(cell_lengths, 0, n6)).flush();
 }

@@ -48,13 +48,13 @@ use Rattle.tokens.specs.declared.Token.{Token}
 use Rattle.tokens.specs.Steps.{spanOf, tokensOf, nextOf, listOrder, countOf, Listed}
 use Rattle.write.specs.Answers.{lineOf, writeOrder, Written, copyOf, noRange, withholdOrder, Withholds, keyOf, keyOrder, Keyed}
 use Rattle.passage.specs.declared.Converted.{Converted}
-use Rattle.passage.specs.Between.{Outcome, writes, formOf, between, answerOf, outputOf, Converts}
+use Rattle.passage.specs.Between.{Outcome, writes, formOf, between, overfull, answerOf, outputOf, Converts}
 use Rattle.passage.specs.Between.{refuses as no-line}
 use Rattle.convert.specs.Convert.{unknownForms, outOfRange, conversion, codeOf}
 use Rattle.exports.specs.Exports.{noReader, readFirst, readCode, readNumbers, hostAnswer, hostLeaves, HostReads, hostWriteOrder, numberCode, HostWrites, nearest, hostWithholdOrder, HostWithholds, HostKeys, spanned, stepCode, stepSpan, HostSteps}
 use Rattle.respelling.proofs.Runs.{finished}
 use Rattle.respelling.proofs.Whole.{only-whole}
-use Rattle.demands.specs.Demand1.{Said, serves, refuses, ofAnswer, ofNumber, ofPart, ofNext, ofConverted, Allowed, exactly, allows, oneOf, Answers, Settled, Blanked, formRefusals, lineRefusals, readRefusals, updateRefusals, askRefusals, fillRefusals, copyRefusals, passRefusals, convertRefusals, Stands, Demand1}
+use Rattle.demands.specs.Demand1.{Said, serves, refuses, ofAnswer, ofNumber, ofPart, ofNext, ofConverted, Allowed, exactly, allows, oneOf, Answers, Settled, Blanked, formRefusals, lineRefusals, readRefusals, updateRefusals, askRefusals, resetRefusals, fillRefusals, copyRefusals, passRefusals, convertRefusals, Stands, Demand1}
 
 -- ---- one of the refusals
 eqb-self : (n : ℕ) → eqb n n ≡ true
@@ -99,6 +99,10 @@ sheet-13-12 bad short p n = (λ e. refl, (λ e. absurd (false≢true e), (λ e. 
 sheet-13-14-12 : (bad out short : Bool) (p n : ℕ) → Each (copyRefusals p n) (sheetOrder bad out p short n)
 unfolding oneOf allows
 sheet-13-14-12 bad out short p n = (λ e. refl, (λ e. rw (eqb-self p), (λ e. rw (eqb-self n), tt)))
+
+sheet-13-14-11 : (bad out lacks : Bool) (i : ℕ) → Each (resetRefusals i) (check bad 13 0 ∷ check out 14 i ∷ check lacks 11 0 ∷ [])
+unfolding oneOf allows
+sheet-13-14-11 bad out lacks i = (λ e. refl, (λ e. rw (eqb-self i), (λ e. refl, tt)))
 
 sheet-13 : (bad : Bool) (p : ℕ) → Each (exactly 13 0 ∷ []) (sheetOrder bad false p false 0)
 unfolding oneOf allows
@@ -148,7 +152,7 @@ lays {s} {d} {e} qs cs q (answer.Refused x) h w =
     (subst (λ (a : Answer). Answers qs (ofAnswer a)) (sym (w .answer-is)) (answers ofAnswer answer.Refused tells-answer qs cs (answer.Sentence q) (serves-answer q) h), same)
   where
     whole : Buffers → Buffers
-    whole x = buffers (x .text-buf) (x .types-buf) (x .boundaries-buf) (x .char-pos-buf) (x .byte-pos-buf) (x .row-ends-buf) (x .tag-ends-buf) (x .tag-bytes-buf)
+    whole x = buffers (x .text-buf) (x .types-buf) (x .boundaries-buf) (x .char-pos-buf) (x .byte-pos-buf) (x .cell-starts-buf) (x .cell-lengths-buf) (x .tag-bytes-buf)
 
 -- ---- what a line is refused by
 -- a number that is allowed where a character stands, of which one of a single byte is that byte
@@ -533,7 +537,7 @@ module _ (reader writer : ℕ) (x out out′ : List ℕ) (place : ℕ) where
 
   comes : (unknown outside : Bool) (r : Result) → Told (lineRefusals (formOf reader) x) r
       → Comes (exactly 16 0 ∷ exactly 14 0 ∷ passRefusals (formOf reader) (formOf writer) x r)
-      (hostOrder no-line unknown outside (λ (s : Sentence). ltb (length out - place) (length (written (formOf writer) s))) (λ (s : Sentence). length (written (formOf writer) s)) (λ (s : Sentence). writes (written (formOf writer) s)) r)
+      (hostOrder no-line unknown outside overfull (λ (s : Sentence). ltb (length out - place) (length (written (formOf writer) s))) (λ (s : Sentence). length (written (formOf writer) s)) (λ (s : Sentence). writes (written (formOf writer) s)) r)
   unfolding hostOrder verdict if_then_else_ oneOf allows passRefusals
   comes true outside (refused n p) h = refl
   comes false true (refused n p) h = refl
@@ -541,12 +545,17 @@ module _ (reader writer : ℕ) (x out out′ : List ℕ) (place : ℕ) where
       more (exactly 16 0) (exactly 14 0 ∷ lineRefusals (formOf reader) x) (refusal n p) (more (exactly 14 0) (lineRefusals (formOf reader) x) (refusal n p) h)
   comes true outside (sentence s) h = refl
   comes false true (sentence s) h = refl
-  comes false false (sentence s) h = on (ltb (length out - place) (length (written (formOf writer) s)))
+  comes false false (sentence s) h = full (overfull s)
     where
       on : (b : Bool) → Comes (exactly 16 0 ∷ exactly 14 0 ∷ exactly 12 (length (written (formOf writer) s)) ∷ [])
           (if b then no-line (refusal 12 (length (written (formOf writer) s))) else writes (written (formOf writer) s))
       on true = rw (eqb-self (length (written (formOf writer) s)))
       on false = tt
+
+      full : (o : Bool) → Comes (exactly 16 0 ∷ exactly 14 0 ∷ (if o then exactly 11 0 ∷ [] else exactly 12 (length (written (formOf writer) s)) ∷ []))
+          (if o then no-line (refusal 11 0) else (if ltb (length out - place) (length (written (formOf writer) s)) then no-line (refusal 12 (length (written (formOf writer) s))) else writes (written (formOf writer) s)))
+      full true = refl
+      full false = on (ltb (length out - place) (length (written (formOf writer) s)))
 
   outcome : Comes refusals (conversion reader writer x (length out) place)
   unfolding conversion between
@@ -663,9 +672,9 @@ marks-set : (r : Record) (d e : Buffers) (i v : ℕ) (a : Answer) → BoundarySe
 unfolding boundaryAnswer
 marks-set r d e i v a w = lays (askRefusals i) _ _ a (sheet-13-14 (not (isSheet r d)) _ i) w
 
-tags-reset : (r : Record) (d e : Buffers) (c : ℕ) (a : Answer) → TagsReset r d c a e → Settled (askRefusals c) (ofAnswer a) d e
+tags-reset : (r : Record) (d e : Buffers) (c : ℕ) (a : Answer) → TagsReset r d c a e → Settled (resetRefusals c) (ofAnswer a) d e
 unfolding resetAnswer
-tags-reset r d e c a w = lays (askRefusals c) _ _ a (sheet-13-14 (not (isSheet r d)) _ c) w
+tags-reset r d e c a w = lays (resetRefusals c) _ _ a (sheet-13-14-11 (not (isSheet r d)) _ _ c) w
 
 decided : (r : Record) (d e : Buffers) (zs : List ℤ) (a : Answer) → Predicted r d zs a e → Settled (askRefusals (length zs)) (ofAnswer a) d e
 unfolding scoreAnswer

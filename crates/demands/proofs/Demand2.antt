@@ -33,7 +33,7 @@ use Rattle.sheet.proofs.Held.{laid-holds, spelled, holds-once}
 use Rattle.sheet.proofs.Exact.{is-sheet, holds-is, no-sheet}
 use Rattle.sheet.proofs.Look.{bounds}
 use Rattle.lookups.specs.Answers.{startAt, charToStrPos, strToCharPos, boundaryAt, cell, cellStart, tagPart, tagAt, surfacePart, surfaceAt}
-use Rattle.lookups.proofs.Parts.{cell-of-table, positions-back, surface-bytes, surface-fits, cell-here, cell-listed}
+use Rattle.lookups.proofs.Parts.{cell-of-table, positions-back, surface-bytes, surface-fits, cell-here}
 use Rattle.changes.specs.Changes.{DefaultSet, defaultAnswer}
 use Rattle.changes.proofs.After.{default-holds}
 use Rattle.load.specs.Load.{lacks, readAnswer, readLeaves, ReadDoes}
@@ -50,7 +50,7 @@ use Rattle.demands.specs.Demand2 as says
 -- what is laid down, buffer by buffer
 lies : (s : Sentence) (d : Buffers) → Lies s d (laid s d)
 unfolding laid lay
-lies s d = record { text-is = refl; types-are = refl; boundaries-are = refl; char-positions-are = refl; byte-positions-are = refl; row-ends-are = refl; tag-ends-are = refl; tag-bytes-are = refl }
+lies s d = record { text-is = refl; types-are = refl; boundaries-are = refl; char-positions-are = refl; byte-positions-are = refl; cell-starts-are = refl; cell-lengths-are = refl; tag-bytes-are = refl }
 
 taken : (f : Form) (x : List ℕ) (s : Sentence) (d e : Buffers) (a : Answer) → read f x ≡ sentence s → roomFor (recordOf s) d ≡ true
     → a ≡ answer.Sentence (recordOf s) → e ≡ laid s d → Taken s d a e
@@ -81,8 +81,8 @@ blank-laid d h = default-holds d (answer.Sentence (recordOf blank)) (laid blank 
       boundaries-is = refl;
       char-pos-is = refl;
       byte-pos-is = refl;
-      row-ends-is = refl;
-      tag-ends-is = refl;
+      cell-starts-is = refl;
+      cell-lengths-is = refl;
       tag-bytes-is = refl;
     }
 
@@ -150,14 +150,13 @@ boundaries : (r : Record) (d : Buffers) (s : Sentence) (i : ℕ) (a : Number) �
 unfolding boundaryAt verdict if_then_else_
 boundaries r d s i a h k e = e ∙ rw (holds-is r d s h, spelled r d s h, lt-leb (count s - 1) i k)
 
--- what a tag's part tells, by what is so where the tag is not empty
-tells : (t : Tag) (at : ℕ) (bytes : List ℕ) → ((t ≡ [] → ⊥) → (at + size t ≤ length bytes) × (take (size t) (drop at bytes) ≡ encodes t)) → Tells t bytes (tagPart at t)
+-- what a tag's part tells, by where its bytes lie
+tells : (t : Tag) (at : ℕ) (bytes : List ℕ) → (at + size t ≤ length bytes) × (take (size t) (drop at bytes) ≡ encodes t) → Tells t bytes (tagPart at t)
 unfolding tagPart
 tells [] at bytes h = refl
 tells (c ∷ t) at bytes h =
-    let k = h (λ z. let y : _≡_ {A = ℕ} 0 1 = cc in omega arith) in
     let n : at + size (c ∷ t) - at ≡ size (c ∷ t) = omega arith in
-    (omega arith, k .0, rw n (k .1))
+    (omega arith, h .0, rw n (h .1))
 
 tags : (r : Record) (d : Buffers) (s : Sentence) (row column : ℕ) (a : Part) → Holds r d s → row < count s → column < s .columns
     → a ≡ tagAt (isSheet r d) (spell r d) row column → Tells (getD (getD (table s) row []) column []) (d .tag-bytes-buf) a
@@ -167,7 +166,7 @@ tags r d s row column a h k l e =
     let f : a ≡ tagPart (cellStart (rows s) row column) (cell s row column) =
     e ∙ rw (holds-is r d s h, spelled r d s h, lt-leb (count s) row k, lt-leb (s .columns) column l) in
     rw (f, cell-of-table s row column (omega (arith, bounds h)))
-    (tells (cell s row column) (cellStart (rows s) row column) (d .tag-bytes-buf) (λ z. cell-here h row column n (cell-listed h row column z)))
+    (tells (cell s row column) (cellStart (rows s) row column) (d .tag-bytes-buf) (cell-here h row column n (omega (arith, bounds h))))
 
 surfaces : (r : Record) (d : Buffers) (s : Sentence) (b e : ℕ) (a : Part) → Holds r d s → b < e → e ≤ count s
     → a ≡ surfaceAt (isSheet r d) (spell r d) b e → Spells (surface s b e) (d .text-buf) a

@@ -1,7 +1,7 @@
 -- Demand 3 holds of the public functions: from their contracts and the laws of the definitions. Assumes nothing.
-use Prim.Native.Nat.{ℕ, _+_, _-_, _≤_, _<_}
+use Prim.Native.Nat.{ℕ, _+_, _-_, _*_, _≤_, _<_}
 use mathlib.Core.Path.{_≡_, refl, sym, ap, subst, _∙_}
-use mathlib.Core.Logic.{_↔_}
+use mathlib.Core.Logic.{_↔_, _⊎_, inl, inr}
 use mathlib.Core.Bool.{Bool, true, false}
 use mathlib.Core.List.{List, _++_}
 use native.Mathlib.Omega.{arith}
@@ -26,20 +26,21 @@ use Rattle.sheet.specs.Layout.{Buffers, buffers, recordOf, roomFor, laid, Holds
 use Rattle.sheet.specs.Check.{isSheet}
 use Rattle.sheet.proofs.Held.{laid-holds, spelled}
 use Rattle.sheet.proofs.Exact.{holds-is}
-use Rattle.changes.specs.Changes.{Lays, boundaryAnswer, resetAnswer}
+use Rattle.changes.specs.Changes.{Lays, boundaryAnswer, lackCells, resetAnswer}
 use Rattle.scores.specs.Scores.{scoreAnswer}
 use Rattle.changes.proofs.After.{boundary-holds, reset-holds}
 use Rattle.scores.proofs.After.{predicted-holds}
 use Rattle.fill.specs.Fill.{Same}
-use Rattle.load.specs.Load.{lacks, readAnswer, readLeaves}
+use Rattle.load.specs.Load.{lacks, readAnswer, readLeaves, ReadDoes}
 use Rattle.load.proofs.Ways.{same-self, same-is}
 use Rattle.load.proofs.Laws.{holding}
 use Rattle.write.specs.Answers.{writeOrder}
 use Rattle.write.proofs.Laws.{took}
 use Rattle.passage.specs.declared.Converted.{Converted}
 use Rattle.passage.specs.declared.Converted.the-variants as converted
-use Rattle.passage.specs.Between.{Outcome, writes, refuses, formOf, between, answerOf, outputOf, Converts}
+use Rattle.passage.specs.Between.{Outcome, writes, refuses, formOf, between, overfull, answerOf, outputOf, Converts}
 use Rattle.convert.specs.Convert.{unknownForms, outOfRange, conversion}
+use Rattle.demands.proofs.Demand2.{demand-2}
 use Rattle.demands.specs.Demand3.{Spelt, Respelt, Changed, boundary-set, tags-reset, predicted, Tokenwise, Demand3}
 
 -- ---- sheets
@@ -93,8 +94,8 @@ lays a t d e = record {
   boundaries-is = refl;
   char-pos-is = refl;
   byte-pos-is = refl;
-  row-ends-is = refl;
-  tag-ends-is = refl;
+  cell-starts-is = refl;
+  cell-lengths-is = refl;
   tag-bytes-is = refl;
 }
 
@@ -103,9 +104,11 @@ module _ (r : Record) (d : Buffers) (s : Sentence) (h : Holds r d s) where
   unfolding boundaryAnswer verdict if_then_else_
   boundary-served i v k l = rw (holds-is r d s h, spelled r d s h, lt-leb (count s - 1) i k, le-ltb 2 v l)
 
-  reset-served : (c : ℕ) → c ≤ 4096 → answer.Sentence (recordOf (resetTags c (spell r d))) ≡ resetAnswer (isSheet r d) (spell r d) c
-  unfolding resetAnswer verdict if_then_else_
-  reset-served c k = rw (holds-is r d s h, spelled r d s h, le-ltb 4096 c k)
+  reset-served : (c : ℕ) → c ≤ 4096 → count s * c ≤ length (d .cell-starts-buf) → count s * c ≤ length (d .cell-lengths-buf)
+      → answer.Sentence (recordOf (resetTags c (spell r d))) ≡ resetAnswer (isSheet r d) (spell r d) c d
+  unfolding resetAnswer lackCells verdict if_then_else_
+  reset-served c k l m =
+      rw (holds-is r d s h, spelled r d s h, le-ltb 4096 c k, le-ltb (length (d .cell-starts-buf)) (count s * c) l, le-ltb (length (d .cell-lengths-buf)) (count s * c) m)
 
   decision-served : (zs : List ℤ) → length zs ≡ count s - 1 → answer.Sentence (recordOf (scored zs (spell r d))) ≡ scoreAnswer (isSheet r d) (spell r d) zs
   unfolding scoreAnswer verdict if_then_else_
@@ -116,8 +119,9 @@ module _ (r : Record) (d : Buffers) (s : Sentence) (h : Holds r d s) where
       let t = setBoundary i (markOf v) (spell r d) in
       (recordOf t, laid t d, boundary-set i v (lays _ t d (boundary-served i v k l)) refl)
 
-  columns-set : (c : ℕ) → c ≤ 4096 → (q : Record) × (e : Buffers) × Changed r d s q e (resetTags c s)
-  columns-set c k = let t = resetTags c (spell r d) in (recordOf t, laid t d, tags-reset c (lays _ t d (reset-served c k)) refl)
+  columns-set : (c : ℕ) → c ≤ 4096 → count s * c ≤ length (d .cell-starts-buf) → count s * c ≤ length (d .cell-lengths-buf)
+      → (q : Record) × (e : Buffers) × Changed r d s q e (resetTags c s)
+  columns-set c k l m = let t = resetTags c (spell r d) in (recordOf t, laid t d, tags-reset c (lays _ t d (reset-served c k l m)) refl)
 
   boundaries-decided : (zs : List ℤ) → length zs ≡ count s - 1 → (q : Record) × (e : Buffers) × Changed r d s q e (scored zs s)
   boundaries-decided zs k = let t = scored zs (spell r d) in (recordOf t, laid t d, predicted zs (lays _ t d (decision-served zs k)) refl)
@@ -151,12 +155,23 @@ back f an x u h le =
 back-partial : (f : Form) (x u : List ℕ) → Respelt f partial x u → length u ≤ 4096 → read partial u ≡ read f x
 back-partial f x u h le = let m = means f partial x u h in partial-back (m .s) u (m .formed) (m .line-is) le ∙ sym (m .reads-to)
 
+-- a written line of its own form, or of the partial one
+pub own-back : (f g : Form) → Annotated g → (x u : List ℕ) (s : Sentence) → (f ≡ g) ⊎ (g ≡ partial) → read f x ≡ sentence s → u ≡ written g s → length u ≤ 4096
+    → read g u ≡ sentence s
+own-back f g an x u s (inl e) i j l = ap (read g) j ∙ definitions.reads-back g an x s (rw e at i) (short u (written g s) j l)
+own-back f g an x u s (inr e) i j l = rw e (partial-back s u (read-formed f x s i .0) (rw e at j) l)
+
+-- a line that reads to a sentence leaves it, given room
+leaves : (f : Form) (u : List ℕ) (s : Sentence) (d e : Buffers) (a : Answer) → read f u ≡ sentence s → roomFor (recordOf s) d ≡ true → ReadDoes (read f u) d a e
+    → (a ≡ answer.Sentence (recordOf s)) × Holds (recordOf s) e s
+leaves f u s d e a i n w = let t = demand-2 .reads f u s d e a i n w in (t .answer-is, t .holds)
+
 -- ---- the conversion
 module _ (g : Form) (room place end : ℕ) where
   -- what comes of a line that reads to r, by whether a form is unknown and a number out of range
   abbrev comes : Bool → Bool → Result → Outcome
   comes unknown outside r =
-      hostOrder refuses unknown outside (λ (s : Sentence). ltb room (needed g s)) (λ (s : Sentence). needed g s) (λ (s : Sentence). writes (written g s)) r
+      hostOrder refuses unknown outside overfull (λ (s : Sentence). ltb room (needed g s)) (λ (s : Sentence). needed g s) (λ (s : Sentence). writes (written g s)) r
 
   -- an end that is answered is that of a written line
   comes-written : (unknown outside : Bool) (r : Result) (s : Sentence) → r ≡ sentence s → converted.Wrote end ≡ answerOf place (comes unknown outside r)
@@ -165,12 +180,18 @@ module _ (g : Form) (room place end : ℕ) where
   comes-written unknown outside (refused n p) s i e = absurd (let z : _≡_ {A = ℕ} 0 1 = cc in omega arith)
   comes-written true outside (sentence t) s i e = absurd (let z : _≡_ {A = ℕ} 0 1 = cc in omega arith)
   comes-written false true (sentence t) s i e = absurd (let z : _≡_ {A = ℕ} 0 1 = cc in omega arith)
-  comes-written false false (sentence t) s i e = let k : t ≡ s = cc in on (ltb room (needed g t)) e ∙ rw k
+  comes-written false false (sentence t) s i e = let k : t ≡ s = cc in full (overfull t) e ∙ rw k
     where
       on : (b : Bool) → converted.Wrote end ≡ answerOf place (if b then refuses (record { number = 12; place = needed g t }) else writes (written g t))
           → (if b then refuses (record { number = 12; place = needed g t }) else writes (written g t)) ≡ writes (written g t)
       on true a = absurd (let z : _≡_ {A = ℕ} 0 1 = cc in omega arith)
       on false a = refl
+
+      full : (o : Bool)
+          → converted.Wrote end ≡ answerOf place (if o then refuses (record { number = 11; place = 0 }) else (if ltb room (needed g t) then refuses (record { number = 12; place = needed g t }) else writes (written g t)))
+          → (if o then refuses (record { number = 11; place = 0 }) else (if ltb room (needed g t) then refuses (record { number = 12; place = needed g t }) else writes (written g t))) ≡ writes (written g t)
+      full true a = absurd (let z : _≡_ {A = ℕ} 0 1 = cc in omega arith)
+      full false a = on (ltb room (needed g t)) a
 
 -- it puts the written line of the sentence that is read
 converts : (reader writer : ℕ) (x u out out′ : List ℕ) (place end : ℕ) (s : Sentence) → read (formOf reader) x ≡ sentence s → u ≡ written (formOf writer) s
@@ -186,14 +207,14 @@ converts reader writer x u out out′ place end s i e w =
 -- room for a sentence, of zeros
 unfoldable zeros : Record → Buffers
 zeros r =
-    buffers (replicate (r .b) 0) (replicate (r .n) 0) (replicate (r .n - 1) 0) (replicate (r .n + 1) 0) (replicate (r .b + 1) 0) (replicate (r .n) 0) (replicate (r .k) 0) (replicate (r .g) 0)
+    buffers (replicate (r .b) 0) (replicate (r .n) 0) (replicate (r .n - 1) 0) (replicate (r .n + 1) 0) (replicate (r .b + 1) 0) (replicate (r .cells) 0) (replicate (r .cells) 0) (replicate (r .g) 0)
 
 long : (n : ℕ) → length (replicate {A = ℕ} n 0) ≡ n
 long n = length-replicate n 0
 
 enough : (r : Record) → roomFor r (zeros r) ≡ true
 unfolding roomFor zeros
-enough r = rw (long (r .b), long (r .n), long (r .n - 1), long (r .n + 1), long (r .b + 1), long (r .k), long (r .g)) (simp reads (omega arith))
+enough r = rw (long (r .b), long (r .n), long (r .n - 1), long (r .n + 1), long (r .b + 1), long (r .cells), long (r .g)) (simp reads (omega arith))
 
 spelt : (g : Form) (r : Record) (d : Buffers) (s : Sentence) → Holds r d s → Spelt g r d (written g s)
 unfolding writeOrder verdict if_then_else_
@@ -231,6 +252,7 @@ demand-3 = record {
       let i = line-of f f x u s p a in
       let j = line-of f f y v t q b in (λ e. d .0 (sym i ∙ e ∙ j), λ g. i ∙ d .1 g ∙ sym j);
   reads-back = back;
+  back-leaves = λ f an x u s d e a i h le n w. leaves f u s d e a (back f an x u h le ∙ i) n w;
   writes-itself = λ f an x u w a le b.
       let m = means f f x u a in
       line-of f f u w (m .s) (back f an x u a le ∙ m .reads-to) b ∙ sym (m .line-is);
@@ -250,6 +272,7 @@ demand-3 = record {
   sheet-canonical = λ r q d e s t u v h k a b.
       told-apart s t u v (h .formed) (k .formed) (spells partial r d s u h a) (spells partial q e t v k b);
   sheet-reads-back = λ r d s u h a le. partial-back s u (h .formed) (spells partial r d s u h a) le;
+  sheet-back-leaves = λ r d c e s u a h p le n w. leaves partial u s c e a (partial-back s u (h .formed) (spells partial r d s u h p) le) n w;
   sheet-survives = λ r d s u h a le. survives s u (h .formed) (spells tokenized r d s u h a) le;
   sheet-told-apart = λ r q d e s t u v h k m n a b le.
       told-by-tokens s t u v (h .formed) (k .formed) m n (spells tokenized r d s u h a) (spells tokenized q e t v k b) le;
@@ -257,7 +280,7 @@ demand-3 = record {
   changed-reads-back = λ r q d e s t u h c a le. let k = changes r q d e s t h c in partial-back t u (k .formed) (spells partial q e t u k a) le;
   changed-survives = λ r q d e s t u h c a le. let k = changes r q d e s t h c in survives t u (k .formed) (spells tokenized q e t u k a) le;
   boundaries-set = λ r d s i v h k l. boundaries-set r d s h i v k l;
-  columns-set = λ r d s c h k. columns-set r d s h c k;
+  columns-set = λ r d s c h k l m. columns-set r d s h c k l m;
   boundaries-decided = λ r d s zs h k. boundaries-decided r d s h zs k;
   sheets-spelt = λ g an r d s h. spelt g r d s h;
   lines-respelt = λ f g an x s i. respelt f g x s i;

@@ -37,7 +37,7 @@ use Rattle.tokens.specs.Steps.{tokensOf, nextOf, Listed}
 use Rattle.write.specs.Answers.{lineOf, Written, copyOf, Withholds, keyOf, Keyed}
 use Rattle.passage.specs.declared.Converted.{Converted}
 use Rattle.passage.specs.declared.Converted.the-variants as converted
-use Rattle.passage.specs.Between.{formOf, Converts}
+use Rattle.passage.specs.Between.{formOf, overfull, Converts}
 use Rattle.convert.specs.Convert.{conversion, codeOf}
 use Rattle.exports.specs.Exports.{readCode, HostReads, numberCode, HostWrites, nearest, HostWithholds, HostKeys, stepCode, HostSteps}
 use Rattle.respelling.specs.Respell.{respell, whole}
@@ -133,9 +133,13 @@ fillRefusals need = exactly 13 0 ∷ exactly 12 need ∷ []
 abbrev pub copyRefusals : ℕ → ℕ → List Allowed
 copyRefusals first need = exactly 13 0 ∷ exactly 14 first ∷ exactly 12 need ∷ []
 
--- a line that is refused, or is written in a form, which 12 refuses at the length needed
+-- a call that changes the columns refuses by 13, by 14 at the number given, or by 11
+abbrev pub resetRefusals : ℕ → List Allowed
+resetRefusals first = exactly 13 0 ∷ exactly 14 first ∷ exactly 11 0 ∷ []
+
+-- a line that is refused, or has more cells than are held, which 11 refuses, or is written in a form, which 12 refuses at the length needed
 unfoldable pub passRefusals : Form → Form → List ℕ → Result → List Allowed
-passRefusals f g x (sentence s) = exactly 12 (needed g s) ∷ []
+passRefusals f g x (sentence s) = if overfull s then exactly 11 0 ∷ [] else exactly 12 (needed g s) ∷ []
 passRefusals f g x (refused n p) = lineRefusals f x
 
 -- the conversion refuses by 16, by 14 at 0, or by that
@@ -196,7 +200,7 @@ pub record Demand1 : Type 0 where
   -- the changes and the boundary decision
   pub set-default : (d e : Buffers) (a : Answer) → DefaultSet d a e → Settled (exactly 15 0 ∷ []) (ofAnswer a) d e
   pub set-boundary : (r : Record) (d e : Buffers) (i v : ℕ) (a : Answer) → BoundarySet r d i v a e → Settled (askRefusals i) (ofAnswer a) d e
-  pub reset-tags : (r : Record) (d e : Buffers) (c : ℕ) (a : Answer) → TagsReset r d c a e → Settled (askRefusals c) (ofAnswer a) d e
+  pub reset-tags : (r : Record) (d e : Buffers) (c : ℕ) (a : Answer) → TagsReset r d c a e → Settled (resetRefusals c) (ofAnswer a) d e
   pub predict : (r : Record) (d e : Buffers) (zs : List ℤ) (a : Answer) → Predicted r d zs a e → Settled (askRefusals (length zs)) (ofAnswer a) d e
   -- the check: yes or no, and yes exactly where the buffers are a sheet
   pub check : (r : Record) (d : Buffers) (a : Bool) → a ≡ isSheet r d → (a ≡ true) ↔ Sheet r d

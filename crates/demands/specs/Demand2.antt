@@ -8,7 +8,7 @@ use lib.Dec.{T}
 use lib.ListN.{length, take, drop, getD}
 use Rattle.laws.specs.All.{All}
 use Rattle.laws.specs.Put.{over}
-use Rattle.utf8.specs.Utf8.{scalar, scalars, encodes, validPrefix}
+use Rattle.utf8.specs.Utf8.{scalar, scalars, encodes, size, validPrefix}
 use Rattle.types.specs.TypeOf.{find, ranges, typeOf, ascending}
 use Rattle.types.specs.Blocks.{Right}
 use Rattle.sentence.specs.Sentence.{Tag, none, code, Sentence, text, marks, rows, count, table, charPositions, bytePositions}
@@ -24,7 +24,7 @@ use Rattle.sheet.specs.declared.Number.{Number}
 use Rattle.sheet.specs.declared.Number.the-variants as number
 use Rattle.sheet.specs.declared.Part.{Part}
 use Rattle.sheet.specs.declared.Part.the-variants as part
-use Rattle.sheet.specs.Layout.{Buffers, recordOf, roomFor, tagsOf, rowEnds, tagEnds, bytesOf, Holds, spell}
+use Rattle.sheet.specs.Layout.{Buffers, recordOf, roomFor, tagsOf, cellsOf, cellStarts, bytesOf, Holds, spell}
 use Rattle.sheet.specs.Check.{isSheet}
 use Rattle.lookups.specs.Answers.{charToStrPos, strToCharPos, boundaryAt, tagAt, surfaceAt}
 use Rattle.load.specs.Load.{ReadDoes}
@@ -42,8 +42,8 @@ pub record Lies (s : Sentence) (d e : Buffers) : Type 0 where
   pub boundaries-are : e .boundaries-buf ≡ over (map code (marks s)) (d .boundaries-buf)
   pub char-positions-are : e .char-pos-buf ≡ over (charPositions (text s)) (d .char-pos-buf)
   pub byte-positions-are : e .byte-pos-buf ≡ over (bytePositions (text s)) (d .byte-pos-buf)
-  pub row-ends-are : e .row-ends-buf ≡ over (rowEnds 0 (rows s)) (d .row-ends-buf)
-  pub tag-ends-are : e .tag-ends-buf ≡ over (tagEnds 0 (tagsOf (rows s))) (d .tag-ends-buf)
+  pub cell-starts-are : e .cell-starts-buf ≡ over (cellStarts 0 (cellsOf (s .columns) (rows s))) (d .cell-starts-buf)
+  pub cell-lengths-are : e .cell-lengths-buf ≡ over (map size (cellsOf (s .columns) (rows s))) (d .cell-lengths-buf)
   pub tag-bytes-are : e .tag-bytes-buf ≡ over (bytesOf (tagsOf (rows s))) (d .tag-bytes-buf)
 
 -- the record and the buffers of a sentence that was read: they are its own, and hold it

@@ -1,7 +1,8 @@
 -- Demand 3 over the public functions: what a line becomes that is read by one of them and written by another, and what a sheet becomes that is written.
-use Prim.Native.Nat.{ℕ, _+_, _-_, _≤_, _<_}
+use Prim.Native.Nat.{ℕ, _+_, _-_, _*_, _≤_, _<_}
 use mathlib.Core.Path.{_≡_}
 use mathlib.Core.Logic.{_↔_}
+use mathlib.Core.Bool.{true}
 use mathlib.Core.List.{List, _++_}
 use lib.IntN.{ℤ}
 use lib.ListN.{length, take, drop}
@@ -10,9 +11,10 @@ use Rattle.sentence.specs.Sentence.{Sentence, count, Agree, NoUnknown, NoneInsi
 use Rattle.sentence.specs.Reading.{Form, Annotated, tokenized, partial, sentence, read}
 use Rattle.sentence.specs.Writing.{written, setBoundary, resetTags, scored}
 use Rattle.sheet.specs.declared.Record.{Record}
+use Rattle.sheet.specs.declared.Answer.{Answer}
 use Rattle.sheet.specs.declared.Answer.the-variants as answer
 use Rattle.sheet.specs.declared.Number.the-variants as number
-use Rattle.sheet.specs.Layout.{Buffers, Holds, markOf}
+use Rattle.sheet.specs.Layout.{Buffers, recordOf, roomFor, Holds, markOf}
 use Rattle.changes.specs.Changes.{BoundarySet, TagsReset}
 use Rattle.scores.specs.Scores.{Predicted}
 use Rattle.load.specs.Load.{ReadDoes}
@@ -54,6 +56,9 @@ pub record Demand3 : Type 0 where
       → Respelt f f x u → Respelt f f y v → (u ≡ v) ↔ Agree s t
   -- a written line of at most 4,096 bytes reads back to the same sentence
   pub reads-back : (f : Form) → Annotated f → (x u : List ℕ) → Respelt f f x u → length u ≤ 4096 → read f u ≡ read f x
+  -- read into buffers with room for its cells, which are N times columns, it leaves that sentence
+  pub back-leaves : (f : Form) → Annotated f → (x u : List ℕ) (s : Sentence) (d e : Buffers) (a : Answer) → read f x ≡ sentence s → Respelt f f x u
+      → length u ≤ 4096 → roomFor (recordOf s) d ≡ true → ReadDoes (read f u) d a e → (a ≡ answer.Sentence (recordOf s)) × Holds (recordOf s) e s
   -- and writes to itself
   pub writes-itself : (f : Form) → Annotated f → (x u w : List ℕ) → Respelt f f x u → length u ≤ 4096 → Respelt f f u w → w ≡ u
   -- so do lines of any two forms, written in the partial form
@@ -78,6 +83,8 @@ pub record Demand3 : Type 0 where
       → Spelt partial r d u → Spelt partial q e v → (u ≡ v) ↔ Agree s t
   pub sheet-reads-back : (r : Record) (d : Buffers) (s : Sentence) (u : List ℕ) → Holds r d s → Spelt partial r d u → length u ≤ 4096
       → read partial u ≡ sentence s
+  pub sheet-back-leaves : (r : Record) (d c e : Buffers) (s : Sentence) (u : List ℕ) (a : Answer) → Holds r d s → Spelt partial r d u → length u ≤ 4096
+      → roomFor (recordOf s) c ≡ true → ReadDoes (read partial u) c a e → (a ≡ answer.Sentence (recordOf s)) × Holds (recordOf s) e s
   pub sheet-survives : (r : Record) (d : Buffers) (s : Sentence) (u : List ℕ) → Holds r d s → Spelt tokenized r d u → length u ≤ 4096
       → (read tokenized u ≡ sentence s) ↔ Tokenwise s
   pub sheet-told-apart : (r q : Record) (d e : Buffers) (s t : Sentence) (u v : List ℕ) → Holds r d s → Holds q e t → Tokenwise s → Tokenwise t
@@ -88,10 +95,11 @@ pub record Demand3 : Type 0 where
       → Spelt partial q e u → length u ≤ 4096 → read partial u ≡ sentence t
   pub changed-survives : (r q : Record) (d e : Buffers) (s t : Sentence) (u : List ℕ) → Holds r d s → Changed r d s q e t
       → Spelt tokenized q e u → length u ≤ 4096 → (read tokenized u ≡ sentence t) ↔ Tokenwise t
-  -- there are such changes: of every sheet, by numbers in range
+  -- there are such changes: of every sheet, by numbers in range, and with room for the cells
   pub boundaries-set : (r : Record) (d : Buffers) (s : Sentence) (i v : ℕ) → Holds r d s → i < count s - 1 → v ≤ 2
       → (q : Record) × (e : Buffers) × Changed r d s q e (setBoundary i (markOf v) s)
   pub columns-set : (r : Record) (d : Buffers) (s : Sentence) (c : ℕ) → Holds r d s → c ≤ 4096
+      → count s * c ≤ length (d .cell-starts-buf) → count s * c ≤ length (d .cell-lengths-buf)
       → (q : Record) × (e : Buffers) × Changed r d s q e (resetTags c s)
   pub boundaries-decided : (r : Record) (d : Buffers) (s : Sentence) (zs : List ℤ) → Holds r d s → length zs ≡ count s - 1
       → (q : Record) × (e : Buffers) × Changed r d s q e (scored zs s)

@@ -4,3 +4,4 @@ pub mod Demand3
 pub mod Calls
 pub mod Withheld
 pub mod Keys
+pub mod Padded

@@ -36,7 +36,7 @@ use Rattle.exports.proofs.Places.{nearest-length}
 use Rattle.exports.specs.Exports.{refusalCode, noReader, numbersOf, readFirst, readCode, readNumbers, ReadTold, hostAnswer, hostLeaves, HostReads, noWriter, hostWriteOrder, numberCode, HostWrites, nearest, nearestIn, hostWithholdOrder, HostWithholds, HostKeys, spanned, stepCode, stepSpan, Tells, HostSteps}
 
 -- ---- reading
-pub stored : (r : Record) (ns : List ℕ) → 5 ≤ length ns → set (set (set (set (set ns 0 (r .n)) 1 (r .b)) 2 (r .columns)) 3 (r .k)) 4 (r .g) ≡ over (numbersOf r) ns
+pub stored : (r : Record) (ns : List ℕ) → 5 ≤ length ns → set (set (set (set (set ns 0 (r .n)) 1 (r .b)) 2 (r .columns)) 3 (r .cells)) 4 (r .g) ≡ over (numbersOf r) ns
 unfolding numbersOf
 stored r ns h = put-front (numbersOf r) ns h
 

@@ -43,9 +43,9 @@ Near q = q .place < 2 ^ 32
 unfoldable pub noReader : ℕ → Bool
 noReader f = ltb 2 f
 
--- N, B, columns, K and G
+-- N, B, columns, cells and G
 unfoldable pub numbersOf : Record → List ℕ
-numbersOf r = r .n ∷ r .b ∷ r .columns ∷ r .k ∷ r .g ∷ []
+numbersOf r = r .n ∷ r .b ∷ r .columns ∷ r .cells ∷ r .g ∷ []
 
 -- before the line is looked at: 16 for an unknown form, 14 for fewer numbers than five
 unfoldable pub readFirst : ℕ → ℕ → List Check
@@ -88,7 +88,7 @@ pub record HostReads (f : ℕ) (x : List ℕ) (d : Buffers) (ns : List ℕ) (a :
 -- ---- writing
 -- the record of five numbers
 abbrev pub recordIn : ℕ → ℕ → ℕ → ℕ → ℕ → Record
-recordIn n b columns k g = record { n = n; b = b; columns = columns; k = k; g = g }
+recordIn n b columns cells g = record { n = n; b = b; columns = columns; cells = cells; g = g }
 
 -- raw is no form to write, nor is a number above 2
 unfoldable pub noWriter : ℕ → Bool

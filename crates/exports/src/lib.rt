@@ -62,7 +62,7 @@ fn store(r: Record, numbers: &mut [u64])
     numbers[0] = r.n as u64;
     numbers[1] = r.b as u64;
     numbers[2] = r.columns as u64;
-    numbers[3] = r.k as u64;
+    numbers[3] = r.cells as u64;
     numbers[4] = r.g as u64;
 }
 
@@ -80,8 +80,8 @@ fn tell_read(answer: Answer, numbers: &mut [u64]) -> u64
     }
 }
 
-// Reads a line in a form (0 raw, 1 tokenized, 2 partial) into lent buffers: 0, and N, B, columns, K and G in the first five numbers. 16 is the first
-// refusal, then 14 for fewer numbers than five, both at 0; then the reader's.
+// Reads a line in a form (0 raw, 1 tokenized, 2 partial) into lent buffers: 0, and N, B, columns, cells and G in the first five numbers. 16 is the
+// first refusal, then 14 for fewer numbers than five, both at 0; then the reader's.
 #[no_mangle]
 pub extern "C" fn ighdelmur_read(
     form: u32,
@@ -91,12 +91,12 @@ pub extern "C" fn ighdelmur_read(
     boundaries: &mut [u8],
     char_pos: &mut [u16],
     byte_pos: &mut [u16],
-    row_ends: &mut [u16],
-    tag_ends: &mut [u16],
+    cell_starts: &mut [u16],
+    cell_lengths: &mut [u16],
     tag_bytes: &mut [u8],
     numbers: &mut [u64],
 ) -> u64
-    ensures { λ a. ⌜ HostReads form (now (line .entry)) (buffers (now (text .entry)) (now (types .entry)) (now (boundaries .entry)) (now («char_pos» .entry)) (now («byte_pos» .entry)) (now («row_ends» .entry)) (now («tag_ends» .entry)) (now («tag_bytes» .entry))) (now (numbers .entry)) a (buffers (now (text .exit)) (now (types .exit)) (now (boundaries .exit)) (now («char_pos» .exit)) (now («byte_pos» .exit)) (now («row_ends» .exit)) (now («tag_ends» .exit)) (now («tag_bytes» .exit))) (now (numbers .exit)) ⌝ }
+    ensures { λ a. ⌜ HostReads form (now (line .entry)) (buffers (now (text .entry)) (now (types .entry)) (now (boundaries .entry)) (now («char_pos» .entry)) (now («byte_pos» .entry)) (now («cell_starts» .entry)) (now («cell_lengths» .entry)) (now («tag_bytes» .entry))) (now (numbers .entry)) a (buffers (now (text .exit)) (now (types .exit)) (now (boundaries .exit)) (now («char_pos» .exit)) (now («byte_pos» .exit)) (now («cell_starts» .exit)) (now («cell_lengths» .exit)) (now («tag_bytes» .exit))) (now (numbers .exit)) ⌝ }
 {
     if no_reader(form) {
         return code(Refusal {
@@ -118,8 +118,8 @@ pub extern "C" fn ighdelmur_read(
         boundaries,
         char_pos,
         byte_pos,
-        row_ends,
-        tag_ends,
+        cell_starts,
+        cell_lengths,
         tag_bytes,
     );
     tell_read(answer, numbers)
@@ -134,13 +134,13 @@ fn write_as(
     boundaries: &[u8],
     char_pos: &[u16],
     byte_pos: &[u16],
-    row_ends: &[u16],
-    tag_ends: &[u16],
+    cell_starts: &[u16],
+    cell_lengths: &[u16],
     tag_bytes: &[u8],
     out: &mut [u8],
 ) -> Number
     requires { ⌜ noWriter form ≡ false ⌝ }
-    ensures { λ a. ⌜ Written (formOf form) r (buffers (now (text .entry)) (now (types .entry)) (now (boundaries .entry)) (now («char_pos» .entry)) (now («byte_pos» .entry)) (now («row_ends» .entry)) (now («tag_ends» .entry)) (now («tag_bytes» .entry))) (now (out .entry)) a (now (out .exit)) ⌝ }
+    ensures { λ a. ⌜ Written (formOf form) r (buffers (now (text .entry)) (now (types .entry)) (now (boundaries .entry)) (now («char_pos» .entry)) (now («byte_pos» .entry)) (now («cell_starts» .entry)) (now («cell_lengths» .entry)) (now («tag_bytes» .entry))) (now (out .entry)) a (now (out .exit)) ⌝ }
 {
     if form == 1 {
         return write::write_tokenized_text(
@@ -150,8 +150,8 @@ fn write_as(
             boundaries,
             char_pos,
             byte_pos,
-            row_ends,
-            tag_ends,
+            cell_starts,
+            cell_lengths,
             tag_bytes,
             out,
         );
@@ -163,8 +163,8 @@ fn write_as(
         boundaries,
         char_pos,
         byte_pos,
-        row_ends,
-        tag_ends,
+        cell_starts,
+        cell_lengths,
         tag_bytes,
         out,
     )
@@ -188,19 +188,19 @@ pub extern "C" fn ighdelmur_write(
     n: usize,
     b: usize,
     columns: usize,
-    k: usize,
+    cells: usize,
     g: usize,
     text: &[u8],
     types: &[u8],
     boundaries: &[u8],
     char_pos: &[u16],
     byte_pos: &[u16],
-    row_ends: &[u16],
-    tag_ends: &[u16],
+    cell_starts: &[u16],
+    cell_lengths: &[u16],
     tag_bytes: &[u8],
     out: &mut [u8],
 ) -> u64
-    ensures { λ a. ⌜ HostWrites form (recordIn n b columns k g) (buffers (now (text .entry)) (now (types .entry)) (now (boundaries .entry)) (now («char_pos» .entry)) (now («byte_pos» .entry)) (now («row_ends» .entry)) (now («tag_ends» .entry)) (now («tag_bytes» .entry))) (now (out .entry)) a (now (out .exit)) ⌝ }
+    ensures { λ a. ⌜ HostWrites form (recordIn n b columns cells g) (buffers (now (text .entry)) (now (types .entry)) (now (boundaries .entry)) (now («char_pos» .entry)) (now («byte_pos» .entry)) (now («cell_starts» .entry)) (now («cell_lengths» .entry)) (now («tag_bytes» .entry))) (now (out .entry)) a (now (out .exit)) ⌝ }
 {
     if no_writer(form) {
         return code(Refusal {
@@ -214,7 +214,7 @@ pub extern "C" fn ighdelmur_write(
             n,
             b,
             columns,
-            k,
+            cells,
             g,
         },
         text,
@@ -222,8 +222,8 @@ pub extern "C" fn ighdelmur_write(
         boundaries,
         char_pos,
         byte_pos,
-        row_ends,
-        tag_ends,
+        cell_starts,
+        cell_lengths,
         tag_bytes,
         out,
     );
@@ -260,28 +260,28 @@ pub extern "C" fn ighdelmur_withhold(
     n: usize,
     b: usize,
     columns: usize,
-    k: usize,
+    cells: usize,
     g: usize,
     text: &[u8],
     types: &[u8],
     boundaries: &[u8],
     char_pos: &[u16],
     byte_pos: &[u16],
-    row_ends: &[u16],
-    tag_ends: &[u16],
+    cell_starts: &[u16],
+    cell_lengths: &[u16],
     tag_bytes: &[u8],
     start: usize,
     end: usize,
     out: &mut [u8],
 ) -> u64
-    ensures { λ a. ⌜ HostWithholds (recordIn n b columns k g) (buffers (now (text .entry)) (now (types .entry)) (now (boundaries .entry)) (now («char_pos» .entry)) (now («byte_pos» .entry)) (now («row_ends» .entry)) (now («tag_ends» .entry)) (now («tag_bytes» .entry))) start end (now (out .entry)) a (now (out .exit)) ⌝ }
+    ensures { λ a. ⌜ HostWithholds (recordIn n b columns cells g) (buffers (now (text .entry)) (now (types .entry)) (now (boundaries .entry)) (now («char_pos» .entry)) (now («byte_pos» .entry)) (now («cell_starts» .entry)) (now («cell_lengths» .entry)) (now («tag_bytes» .entry))) start end (now (out .entry)) a (now (out .exit)) ⌝ }
 {
     let answer = write::write_withheld_text(
         Record {
             n,
             b,
             columns,
-            k,
+            cells,
             g,
         },
         text,
@@ -289,8 +289,8 @@ pub extern "C" fn ighdelmur_withhold(
         boundaries,
         char_pos,
         byte_pos,
-        row_ends,
-        tag_ends,
+        cell_starts,
+        cell_lengths,
         tag_bytes,
         start,
         end,
@@ -305,26 +305,26 @@ pub extern "C" fn ighdelmur_key(
     n: usize,
     b: usize,
     columns: usize,
-    k: usize,
+    cells: usize,
     g: usize,
     text: &[u8],
     types: &[u8],
     boundaries: &[u8],
     char_pos: &[u16],
     byte_pos: &[u16],
-    row_ends: &[u16],
-    tag_ends: &[u16],
+    cell_starts: &[u16],
+    cell_lengths: &[u16],
     tag_bytes: &[u8],
     out: &mut [u8],
 ) -> u64
-    ensures { λ a. ⌜ HostKeys (recordIn n b columns k g) (buffers (now (text .entry)) (now (types .entry)) (now (boundaries .entry)) (now («char_pos» .entry)) (now («byte_pos» .entry)) (now («row_ends» .entry)) (now («tag_ends» .entry)) (now («tag_bytes» .entry))) (now (out .entry)) a (now (out .exit)) ⌝ }
+    ensures { λ a. ⌜ HostKeys (recordIn n b columns cells g) (buffers (now (text .entry)) (now (types .entry)) (now (boundaries .entry)) (now («char_pos» .entry)) (now («byte_pos» .entry)) (now («cell_starts» .entry)) (now («cell_lengths» .entry)) (now («tag_bytes» .entry))) (now (out .entry)) a (now (out .exit)) ⌝ }
 {
     let answer = write::note_key(
         Record {
             n,
             b,
             columns,
-            k,
+            cells,
             g,
         },
         text,
@@ -332,8 +332,8 @@ pub extern "C" fn ighdelmur_key(
         boundaries,
         char_pos,
         byte_pos,
-        row_ends,
-        tag_ends,
+        cell_starts,
+        cell_lengths,
         tag_bytes,
         out,
     );
@@ -381,27 +381,27 @@ pub extern "C" fn ighdelmur_next_token(
     n: usize,
     b: usize,
     columns: usize,
-    k: usize,
+    cells: usize,
     g: usize,
     text: &[u8],
     types: &[u8],
     boundaries: &[u8],
     char_pos: &[u16],
     byte_pos: &[u16],
-    row_ends: &[u16],
-    tag_ends: &[u16],
+    cell_starts: &[u16],
+    cell_lengths: &[u16],
     tag_bytes: &[u8],
     p: usize,
     span: &mut [u64],
 ) -> u64
-    ensures { λ a. ⌜ HostSteps (recordIn n b columns k g) (buffers (now (text .entry)) (now (types .entry)) (now (boundaries .entry)) (now («char_pos» .entry)) (now («byte_pos» .entry)) (now («row_ends» .entry)) (now («tag_ends» .entry)) (now («tag_bytes» .entry))) p (now (span .entry)) a (now (span .exit)) ⌝ }
+    ensures { λ a. ⌜ HostSteps (recordIn n b columns cells g) (buffers (now (text .entry)) (now (types .entry)) (now (boundaries .entry)) (now («char_pos» .entry)) (now («byte_pos» .entry)) (now («cell_starts» .entry)) (now («cell_lengths» .entry)) (now («tag_bytes» .entry))) p (now (span .entry)) a (now (span .exit)) ⌝ }
 {
     let next = tokens::next_token(
         Record {
             n,
             b,
             columns,
-            k,
+            cells,
             g,
         },
         text,
@@ -409,8 +409,8 @@ pub extern "C" fn ighdelmur_next_token(
         boundaries,
         char_pos,
         byte_pos,
-        row_ends,
-        tag_ends,
+        cell_starts,
+        cell_lengths,
         tag_bytes,
         p,
     );

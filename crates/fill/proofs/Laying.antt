@@ -5,30 +5,30 @@ use mathlib.Core.Bool.{Bool, true, false}
 use mathlib.Core.List.{List, [], _∷_}
 use native.Mathlib.Omega.{arith}
 use borrow.Author.Tests.{ltb-false}
-use lib.Dec.{eqb, ltb}
+use lib.Dec.{ltb}
 use lib.ListN.{length, take, drop, drop-of-length-le}
 use Rattle.laws.specs.If.{if_then_else_}
-use Rattle.utf8.specs.Utf8.{encode, width, size, decodeAt, walk, chars, validPrefix, values, scalars, isChar}
+use Rattle.utf8.specs.Utf8.{encode, width, size, decodeAt, walk, validPrefix, values, scalars, isChar}
 use Rattle.utf8.specs.declared.Decoded.{Decoded}
 use Rattle.utf8.specs.declared.Decoded.the-variants.{Char, Bad, End}
 use Rattle.utf8.proofs.Codec.{encode-decode, valid-within}
-use Rattle.utf8.proofs.Laws.{Passed, len-ok, width-at, char-within, chars-char, passed-char, passed-bad, end-past, bad-inside}
-use Rattle.sentence.specs.Sentence.{Sentence}
-use Rattle.sentence.specs.Reading.{Form, Place, at, start, behind, inTag, gap, escaped, Act, skip, letter, opens, ofTag, Step, go, stop, kind, advance, Run, whole, stopped, ending, finish, push, follow, run, gather, Result, sentence, refused, built, placed, read}
+use Rattle.utf8.proofs.Laws.{Passed, len-ok, width-at, char-within, chars-char, passed-char, passed-bad, end-past}
+use Rattle.sentence.specs.Sentence.{Sentence, Formed}
+use Rattle.sentence.specs.Reading.{Form, Place, at, start, behind, inTag, gap, escaped, Act, skip, letter, opens, ofTag, Step, go, stop, advance, Run, whole, stopped, ending, finish, push, follow, run, gather, Result, sentence, refused, built, placed, read}
 use Rattle.sentence.specs.Reading as reading
-use Rattle.sentence.proofs.Shape.{ActOf, StepOf}
-use Rattle.sheet.specs.Layout.{Buffers, buffers, recordOf, roomFor, laid}
+use Rattle.sentence.proofs.Shape.{ActOf, StepOf, read-formed}
+use Rattle.sheet.specs.Layout.{Buffers, buffers, recordOf, roomFor}
 use Rattle.reader.specs.declared.State.{State}
 use Rattle.reader.specs.declared.Stepped.{Stepped}
 use Rattle.reader.specs.Flags.{stateOf, flags, actOf, stepped}
 use Rattle.reader.proofs.Enums.{state-back}
 use Rattle.reader.proofs.Advances.{advance-of, Goes, advanced}
 use Rattle.counts.specs.declared.Counts.{Counts}
-use Rattle.counts.specs.Counts.{Small, opened, nothing, bytes, tallyBy, tally}
-use Rattle.counts.proofs.Bounds.{small-more, tally-small}
+use Rattle.counts.specs.Counts.{Small, nothing, bytes, tallyBy, tally}
+use Rattle.counts.proofs.Bounds.{nothing-small, small-more, tally-small}
 use Rattle.stores.specs.Parts.{Part, Stored, Bytes, Turning, Finishing, Finished}
 use Rattle.fill.specs.Fill.{Fits, filled, Same}
-use Rattle.fill.proofs.Going.{Emitted, emitted, Goings, Roomy, roomy, goings-start, goings-room, goings-turn, goings-finish, goings-done}
+use Rattle.fill.proofs.Going.{emitted, Goings, roomy, goings-start, goings-narrow, goings-room, goings-turn, goings-finish, goings-done}
 
 -- ---- a line that reads to a sentence
 record Reads (f : Form) (x : List ℕ) (s : Sentence) : Type 0 where
@@ -57,10 +57,11 @@ reads-of f x s = long (ltb 4096 (length x)) refl
     long false e i = bad (ltb (validPrefix x) (length x)) refl (ltb-false 4096 (length x) e) i
 
 -- ---- the invariant
-pub record Laying (f : Form) (x : List ℕ) (σ : State) (k : Counts) (p : ℕ) (d₀ d : Buffers) : Type 0 where
+pub record Laying (f : Form) (c : ℕ) (x : List ℕ) (σ : State) (k : Counts) (p : ℕ) (d₀ d : Buffers) : Type 0 where
   pub s : Sentence
   pub left : List Act
   pub reads : read f x ≡ sentence s
+  pub stride : c ≡ s .columns
   pub room : roomFor (recordOf s) d₀ ≡ true
   pub short : length x ≤ 4096
   pub valid : validPrefix x ≡ length x
@@ -70,28 +71,25 @@ pub record Laying (f : Form) (x : List ℕ) (σ : State) (k : Counts) (p : ℕ) 
   pub runs : run f (stateOf σ) (scalars (drop p x)) ≡ whole left
   pub goings : Goings left k s d₀ d
 
-nothing-small : Small nothing 0
-unfolding nothing opened
-nothing-small = record { n-small = omega arith; b-small = omega arith; columns-small = omega arith; tags-small = omega arith; k-small = omega arith; g-small = omega arith }
-
-pub lay-start : (f : Form) (x : List ℕ) (σ : State) (k : Counts) (d : Buffers) → Fits (read f x) d → σ ≡ flags (at start) → k ≡ nothing → Laying f x σ k 0 d d
-lay-start f x σ k d = on (read f x) refl
+pub lay-start : (f : Form) (c : ℕ) (x : List ℕ) (σ : State) (k : Counts) (d : Buffers) → Fits (read f x) c d → σ ≡ flags (at start) → k ≡ nothing → Laying f c x σ k 0 d d
+lay-start f c x σ k d = on (read f x) refl
   where
-    on : (r : Result) → read f x ≡ r → Fits r d → σ ≡ flags (at start) → k ≡ nothing → Laying f x σ k 0 d d
+    on : (r : Result) → read f x ≡ r → Fits r c d → σ ≡ flags (at start) → k ≡ nothing → Laying f c x σ k 0 d d
     on (sentence s) e h i j =
         let r = reads-of f x s e in
         record {
           s = s;
           left = r .acts;
           reads = e;
-          room = h;
+          stride = h .0;
+          room = h .1;
           short = r .short;
           valid = r .valid;
           within = omega arith;
           passed = record { same = omega arith };
           small = rw j nothing-small;
           runs = rw (i, state-back (at start)) (r .runs);
-          goings = rw j (goings-start (r .acts) s d (emitted f (scalars x) (r .acts) s (r .runs) (r .builds)) (roomy s d h));
+          goings = rw j (goings-start (r .acts) s d (emitted f (scalars x) (r .acts) s (r .runs) (r .builds)) (roomy s d (read-formed f x s e .0) (h .1)));
         }
     on (refused n q) e h i j = absurd h
 
@@ -109,8 +107,8 @@ pub record Long (d₀ d : Buffers) : Type 0 where
   pub boundaries-long : length (d .boundaries-buf) ≡ length (d₀ .boundaries-buf)
   pub char-pos-long : length (d .char-pos-buf) ≡ length (d₀ .char-pos-buf)
   pub byte-pos-long : length (d .byte-pos-buf) ≡ length (d₀ .byte-pos-buf)
-  pub row-ends-long : length (d .row-ends-buf) ≡ length (d₀ .row-ends-buf)
-  pub tag-ends-long : length (d .tag-ends-buf) ≡ length (d₀ .tag-ends-buf)
+  pub cell-starts-long : length (d .cell-starts-buf) ≡ length (d₀ .cell-starts-buf)
+  pub cell-lengths-long : length (d .cell-lengths-buf) ≡ length (d₀ .cell-lengths-buf)
   pub tag-bytes-long : length (d .tag-bytes-buf) ≡ length (d₀ .tag-bytes-buf)
 
 -- ---- a character
@@ -142,7 +140,10 @@ left-char : (x : List ℕ) (p v n : ℕ) → decodeAt x p ≡ Char v n → scala
 unfolding values
 left-char x p v n e = ap values (chars-char x p v n e)
 
-module _ {f : Form} {x : List ℕ} {σ : State} {k : Counts} {p : ℕ} {d₀ d : Buffers} (h : Laying f x σ k p d₀ d) where
+module _ {f : Form} {c : ℕ} {x : List ℕ} {σ : State} {k : Counts} {p : ℕ} {d₀ d : Buffers} (h : Laying f c x σ k p d₀ d) where
+  lay-formed : Formed (h .s)
+  lay-formed = read-formed f x (h .s) (h .reads) .0
+
   -- inside the line a character stands
   pub lay-stands : p < length x → isChar (decodeAt x p) ≡ true
   unfolding isChar
@@ -190,24 +191,26 @@ module _ {f : Form} {x : List ℕ} {σ : State} {k : Counts} {p : ℕ} {d₀ d :
       parts : Goings (actOf g ∷ goes .rest) k (h .s) d₀ d
       parts = subst (λ (l : List Act). Goings l k (h .s) d₀ d) (goes .is) (h .goings)
 
-      pub lay-turning : Turning (actOf g) k x p n d
+      pub lay-turning : Turning c (actOf g) k x p n d
       unfolding decodeAt
       lay-turning = record {
         small = lay-small;
+        narrow = record { few = omega (arith, h .stride, lay-formed .columns-fit); fits = omega (arith, h .stride, goings-narrow (actOf g) (goes .rest) k (h .s) d₀ d parts) };
         some = len-ok x p v n q .0;
         few = len-ok x p v n q .1;
         within = char-within x p v n (h .within) q;
         bytes = act-bytes (actOf g) v (take n (drop p x)) act-of (encode-decode (drop p x) v n q .bytes);
-        room = goings-room (actOf g) (goes .rest) k (h .s) d₀ d parts;
+        room = rw (h .stride) (goings-room (actOf g) (goes .rest) k (h .s) d₀ d parts);
       }
 
-      pub lay-go : {k′ : Counts} {e : Buffers} → Stored (λ (o : Part). o .emit (actOf g) k) k d e → k′ ≡ tallyBy n (actOf g) k → Laying f x (g .state) k′ (p + n) d₀ e
+      pub lay-go : {k′ : Counts} {e : Buffers} → Stored c (λ (o : Part). o .emit (actOf g) k) k d e → k′ ≡ tallyBy n (actOf g) k → Laying f c x (g .state) k′ (p + n) d₀ e
       lay-go {k′} {e} w i =
           let j : k′ ≡ tally (actOf g) k = i ∙ rw (width-at x p v n q) (tally-width (actOf g) v k act-of) in
           record {
             s = h .s;
             left = goes .rest;
             reads = h .reads;
+            stride = h .stride;
             room = h .room;
             short = h .short;
             valid = h .valid;
@@ -215,7 +218,7 @@ module _ {f : Form} {x : List ℕ} {σ : State} {k : Counts} {p : ℕ} {d₀ d :
             passed = passed-char x p v n _ (sym q) refl (h .passed);
             small = rw i (tally-small n p (actOf g) k (omega (arith, len-ok x p v n q)) (h .small));
             runs = goes .runs;
-            goings = rw j (goings-turn (actOf g) (goes .rest) k (h .s) d₀ d parts e w);
+            goings = rw j (goings-turn (actOf g) (goes .rest) k (h .s) d₀ d parts e (rw (h .stride) at w));
           }
 
   -- ---- the line's end
@@ -236,13 +239,13 @@ module _ {f : Form} {x : List ℕ} {σ : State} {k : Counts} {p : ℕ} {d₀ d :
   over : length x ≤ p → Goings [] k (h .s) d₀ d
   over l = subst (λ (m : List Act). Goings m k (h .s) d₀ d) (ended l) (h .goings)
 
-  pub lay-finishing : length x ≤ p → Finishing k (d .char-pos-buf) (d .byte-pos-buf) (d .row-ends-buf) (d .tag-ends-buf)
-  lay-finishing l = goings-finish k (h .s) d₀ d (over l) lay-small
+  pub lay-finishing : length x ≤ p → Finishing c k (d .char-pos-buf) (d .byte-pos-buf) (d .cell-starts-buf) (d .cell-lengths-buf)
+  lay-finishing l = rw (h .stride) (goings-finish k (h .s) d₀ d (over l) lay-small (lay-formed .columns-fit))
 
-  pub lay-done : {c b w e : List ℕ} → length x ≤ p → Finished k (d .char-pos-buf) (d .byte-pos-buf) (d .row-ends-buf) (d .tag-ends-buf) c b w e
-      → Same (filled (read f x) d₀) (buffers (d .text-buf) (d .types-buf) (d .boundaries-buf) c b w e (d .tag-bytes-buf))
+  pub lay-done : {q b w e : List ℕ} → length x ≤ p → Finished c k (d .char-pos-buf) (d .byte-pos-buf) (d .cell-starts-buf) (d .cell-lengths-buf) q b w e
+      → Same (filled (read f x) d₀) (buffers (d .text-buf) (d .types-buf) (d .boundaries-buf) q b w e (d .tag-bytes-buf))
   unfolding filled
-  lay-done l i = rw (h .reads) (goings-done k (h .s) d₀ d (over l) (roomy (h .s) d₀ (h .room)) i)
+  lay-done l i = rw (h .reads) (goings-done k (h .s) d₀ d (over l) (roomy (h .s) d₀ lay-formed (h .room)) (rw (h .stride) at i))
 
   -- no buffer changes its length
   pub lay-long : Long d₀ d
@@ -252,7 +255,7 @@ module _ {f : Form} {x : List ℕ} {σ : State} {k : Counts} {p : ℕ} {d₀ d :
     boundaries-long = h .goings .boundaries-going .filling .long;
     char-pos-long = h .goings .char-pos-going .filling .long;
     byte-pos-long = h .goings .byte-pos-going .filling .long;
-    row-ends-long = h .goings .row-ends-going .filling .long;
-    tag-ends-long = h .goings .tag-ends-going .filling .long;
+    cell-starts-long = h .goings .cell-starts-going .filling .long;
+    cell-lengths-long = h .goings .cell-lengths-going .filling .long;
     tag-bytes-long = h .goings .tag-bytes-going .filling .long;
   }

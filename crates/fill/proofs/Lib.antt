@@ -1,5 +1,4 @@
 pub mod Texts
-pub mod Rows
-pub mod Tags
+pub mod Cells
 pub mod Going
 pub mod Laying

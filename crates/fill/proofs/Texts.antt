@@ -1,16 +1,15 @@
 -- What a line's acts store of its text is what the sentence that they gather has there. Assumes nothing.
-use Prim.Native.Nat.{ℕ, zero, suc, _+_, _-_, max}
+use Prim.Native.Nat.{ℕ, zero, suc, _+_, _-_}
 use mathlib.Core.Path.{_≡_, refl, sym, ap, _∙_}
-use mathlib.Core.List.{List, [], _∷_, _++_, map, append-assoc, append-nil}
+use mathlib.Core.Bool.{Bool, true, false}
+use mathlib.Core.List.{List, [], _∷_, _++_, map}
 use native.Mathlib.Numerals.{add-one}
-use lib.ListN.{length, replicate}
+use lib.ListN.{replicate}
 use Rattle.utf8.specs.Utf8.{width, encode, encodes}
 use Rattle.types.specs.TypeOf.{typeOf}
 use Rattle.sentence.specs.Sentence.{Tag, Mark, code, textOf, marksOf, starts, numbers}
 use Rattle.sentence.specs.Reading.{Act, skip, letter, opens, ofTag, Rest, over, next, Parsed, parsed, before, add, gather}
 use Rattle.counts.specs.declared.Counts.{Counts}
-use Rattle.counts.specs.declared.Open.{Open}
-use Rattle.counts.specs.declared.Open.the-variants.{No, Empty, Present}
 use Rattle.counts.specs.Counts.{bytes, letters, opening, grows, tallyBy, tally}
 use Rattle.counts.proofs.Rests.{lettersIn, marksIn, before-text, before-marks}
 use Rattle.stores.specs.Parts.{later, onLetter, Part, textPart, typesPart, boundariesPart, charPosPart, bytePosPart}
@@ -25,11 +24,10 @@ restOf (parsed t ts n r) = r
 unfoldable pub reads : Counts → ℕ × ℕ
 reads k = (k .n, k .b)
 
-grows-reads : (o : Open) (w : ℕ) (k : Counts) → reads (grows o w k) ≡ reads k
+grows-reads : (o : Bool) (w : ℕ) (k : Counts) → reads (grows o w k) ≡ reads k
 unfolding grows reads
-grows-reads No w k = refl
-grows-reads Empty w k = refl
-grows-reads Present w k = refl
+grows-reads true w k = refl
+grows-reads false w k = refl
 
 -- what a part stores at a character, and at the end, by how much was read; and the same of a whole rest
 module _ (p : Part) (at : ℕ × ℕ → Mark → ℕ → List ℕ) (end : ℕ × ℕ → List ℕ) (all : ℕ × ℕ → Rest → List ℕ)

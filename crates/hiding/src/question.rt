@@ -10,14 +10,23 @@ use casework::repeated;
 use sheet::Answer;
 use sheet::Record;
 
-// The bytes of a short line, and the most room that is asked for with the small buffers.
-const SHORT: usize = 64;
+// The bytes of a short line.
+const SHORT: usize = 256;
 
 // The room of each small buffer: every short line has it.
-const SMALL: usize = 65;
+const SMALL: usize = 257;
 
-// The room of each large buffer of the sheet: every line has it.
+// The cells of the small buffers: a short line has no more than 128 characters times 128 columns.
+const FEW: usize = 16384;
+
+// The length of the output beside the small buffers.
+const LITTLE: usize = 1024;
+
+// The room of each large buffer of the sheet: every line has it, but for its cells.
 const LARGE: usize = 4097;
+
+// The cells of the large buffers.
+const MANY: usize = 400000;
 
 // The length of the output beside the large buffers.
 const MOST: usize = 16384;
@@ -53,7 +62,7 @@ fn record(line: &[u8], r: Record) -> Record {
         n: counted(line, b'N', r.n),
         b: counted(line, b'B', r.b),
         columns: counted(line, b'C', r.columns),
-        k: counted(line, b'K', r.k),
+        cells: counted(line, b'E', r.cells),
         g: counted(line, b'G', r.g),
     }
 }
@@ -67,8 +76,8 @@ fn told(
     boundaries: &[u8],
     char_pos: &[u16],
     byte_pos: &[u16],
-    row_ends: &[u16],
-    tag_ends: &[u16],
+    cell_starts: &[u16],
+    cell_lengths: &[u16],
     tag_bytes: &[u8],
     out: &mut [u8],
     sink: Sink,
@@ -82,8 +91,8 @@ fn told(
             boundaries,
             char_pos,
             byte_pos,
-            row_ends,
-            tag_ends,
+            cell_starts,
+            cell_lengths,
             tag_bytes,
             room,
             out,
@@ -98,8 +107,8 @@ fn told(
             boundaries,
             char_pos,
             byte_pos,
-            row_ends,
-            tag_ends,
+            cell_starts,
+            cell_lengths,
             tag_bytes,
             room,
             out,
@@ -113,8 +122,8 @@ fn told(
         boundaries,
         char_pos,
         byte_pos,
-        row_ends,
-        tag_ends,
+        cell_starts,
+        cell_lengths,
         tag_bytes,
         place(line, 7),
         place(line, 8),
@@ -133,8 +142,8 @@ fn served(
     boundaries: &[u8],
     char_pos: &[u16],
     byte_pos: &[u16],
-    row_ends: &[u16],
-    tag_ends: &[u16],
+    cell_starts: &[u16],
+    cell_lengths: &[u16],
     tag_bytes: &[u8],
     out: &mut [u8],
     sink: Sink,
@@ -148,8 +157,8 @@ fn served(
             part(boundaries, 0, lent(line, 2, boundaries.len())),
             part16(char_pos, 0, lent(line, 3, char_pos.len())),
             part16(byte_pos, 0, lent(line, 4, byte_pos.len())),
-            part16(row_ends, 0, lent(line, 5, row_ends.len())),
-            part16(tag_ends, 0, lent(line, 6, tag_ends.len())),
+            part16(cell_starts, 0, lent(line, 5, cell_starts.len())),
+            part16(cell_lengths, 0, lent(line, 6, cell_lengths.len())),
             part(tag_bytes, 0, lent(line, 7, tag_bytes.len())),
             out,
             sink,
@@ -167,8 +176,8 @@ fn load(
     boundaries: &mut [u8],
     char_pos: &mut [u16],
     byte_pos: &mut [u16],
-    row_ends: &mut [u16],
-    tag_ends: &mut [u16],
+    cell_starts: &mut [u16],
+    cell_lengths: &mut [u16],
     tag_bytes: &mut [u8],
 ) -> Answer {
     if form == b'R' {
@@ -179,8 +188,8 @@ fn load(
             boundaries,
             char_pos,
             byte_pos,
-            row_ends,
-            tag_ends,
+            cell_starts,
+            cell_lengths,
             tag_bytes,
         );
     }
@@ -192,8 +201,8 @@ fn load(
             boundaries,
             char_pos,
             byte_pos,
-            row_ends,
-            tag_ends,
+            cell_starts,
+            cell_lengths,
             tag_bytes,
         );
     }
@@ -204,8 +213,8 @@ fn load(
         boundaries,
         char_pos,
         byte_pos,
-        row_ends,
-        tag_ends,
+        cell_starts,
+        cell_lengths,
         tag_bytes,
     )
 }
@@ -219,8 +228,8 @@ fn by_way(
     boundaries: &mut [u8],
     char_pos: &mut [u16],
     byte_pos: &mut [u16],
-    row_ends: &mut [u16],
-    tag_ends: &mut [u16],
+    cell_starts: &mut [u16],
+    cell_lengths: &mut [u16],
     tag_bytes: &mut [u8],
     out: &mut [u8],
     sink: Sink,
@@ -233,8 +242,8 @@ fn by_way(
         boundaries,
         char_pos,
         byte_pos,
-        row_ends,
-        tag_ends,
+        cell_starts,
+        cell_lengths,
         tag_bytes,
     );
     served(
@@ -245,8 +254,8 @@ fn by_way(
         boundaries,
         char_pos,
         byte_pos,
-        row_ends,
-        tag_ends,
+        cell_starts,
+        cell_lengths,
         tag_bytes,
         out,
         sink,
@@ -260,10 +269,10 @@ fn small(line: &[u8], bytes: &[u8], sink: Sink) -> Sink {
     let mut boundaries = [0u8; SMALL];
     let mut char_pos = [0u16; SMALL];
     let mut byte_pos = [0u16; SMALL];
-    let mut row_ends = [0u16; SMALL];
-    let mut tag_ends = [0u16; SMALL];
+    let mut cell_starts = [0u16; FEW];
+    let mut cell_lengths = [0u16; FEW];
     let mut tag_bytes = [0u8; SMALL];
-    let mut out = [0u8; SHORT];
+    let mut out = [0u8; LITTLE];
     by_way(
         line,
         bytes,
@@ -272,8 +281,8 @@ fn small(line: &[u8], bytes: &[u8], sink: Sink) -> Sink {
         &mut boundaries,
         &mut char_pos,
         &mut byte_pos,
-        &mut row_ends,
-        &mut tag_ends,
+        &mut cell_starts,
+        &mut cell_lengths,
         &mut tag_bytes,
         &mut out,
         sink,
@@ -287,8 +296,8 @@ fn large(line: &[u8], bytes: &[u8], sink: Sink) -> Sink {
     let mut boundaries = [0u8; LARGE];
     let mut char_pos = [0u16; LARGE];
     let mut byte_pos = [0u16; LARGE];
-    let mut row_ends = [0u16; LARGE];
-    let mut tag_ends = [0u16; LARGE];
+    let mut cell_starts = [0u16; MANY];
+    let mut cell_lengths = [0u16; MANY];
     let mut tag_bytes = [0u8; LARGE];
     let mut out = [0u8; MOST];
     by_way(
@@ -299,8 +308,8 @@ fn large(line: &[u8], bytes: &[u8], sink: Sink) -> Sink {
         &mut boundaries,
         &mut char_pos,
         &mut byte_pos,
-        &mut row_ends,
-        &mut tag_ends,
+        &mut cell_starts,
+        &mut cell_lengths,
         &mut tag_bytes,
         &mut out,
         sink,
@@ -311,7 +320,7 @@ fn large(line: &[u8], bytes: &[u8], sink: Sink) -> Sink {
 pub fn ask(line: &[u8], sink: Sink) -> Sink {
     let mut bytes = [0u8; 5120];
     let n = repeated(field(line, 2), &mut bytes);
-    if (n <= SHORT) & (place(line, 3) <= SHORT) {
+    if (n <= SHORT) & (place(line, 3) <= LITTLE) {
         return small(line, part(&bytes, 0, n), sink);
     }
     large(line, part(&bytes, 0, n), sink)

@@ -16,8 +16,8 @@ pub fn filled(
     boundaries: &[u8],
     char_pos: &[u16],
     byte_pos: &[u16],
-    row_ends: &[u16],
-    tag_ends: &[u16],
+    cell_starts: &[u16],
+    cell_lengths: &[u16],
     tag_bytes: &[u8],
     room: usize,
 ) -> [Token; 64]
@@ -32,8 +32,8 @@ pub fn filled(
         boundaries,
         char_pos,
         byte_pos,
-        row_ends,
-        tag_ends,
+        cell_starts,
+        cell_lengths,
         tag_bytes,
         &mut list[..room],
     );
@@ -48,13 +48,13 @@ pub fn answered(
     boundaries: &[u8],
     char_pos: &[u16],
     byte_pos: &[u16],
-    row_ends: &[u16],
-    tag_ends: &[u16],
+    cell_starts: &[u16],
+    cell_lengths: &[u16],
     tag_bytes: &[u8],
     room: usize,
 ) -> Number
     requires { ⌜ room ≤ 64 ⌝ }
-    ensures { λ a. ⌜ a ≡ countOf r (buffers (now (text .entry)) (now (types .entry)) (now (boundaries .entry)) (now («char_pos» .entry)) (now («byte_pos» .entry)) (now («row_ends» .entry)) (now («tag_ends» .entry)) (now («tag_bytes» .entry))) room ⌝ }
+    ensures { λ a. ⌜ a ≡ countOf r (buffers (now (text .entry)) (now (types .entry)) (now (boundaries .entry)) (now («char_pos» .entry)) (now («byte_pos» .entry)) (now («cell_starts» .entry)) (now («cell_lengths» .entry)) (now («tag_bytes» .entry))) room ⌝ }
 {
     let mut list = [Token { start: 1, end: 0 }; 64];
     tokens::token_list(
@@ -64,8 +64,8 @@ pub fn answered(
         boundaries,
         char_pos,
         byte_pos,
-        row_ends,
-        tag_ends,
+        cell_starts,
+        cell_lengths,
         tag_bytes,
         &mut list[..room],
     )

@@ -1,5 +1,5 @@
 -- The ways through a reader: what each has found, and what it answers and leaves. Assumes nothing.
-use Prim.Native.Nat.{ℕ, _+_, _≤_}
+use Prim.Native.Nat.{ℕ, _≤_}
 use mathlib.Core.Path.{_≡_, refl, sym, ap, _∙_}
 use mathlib.Core.Bool.{Bool, true, false, not}
 use mathlib.Core.List.{List}
@@ -7,15 +7,14 @@ use native.Mathlib.Omega.{arith}
 use borrow.Author.Tests.{not-false}
 use lib.ListN.{length}
 use Rattle.laws.specs.If.{if_then_else_}
-use Rattle.utf8.specs.Utf8.{size}
-use Rattle.sentence.specs.Sentence.{Sentence, text, Formed}
+use Rattle.sentence.specs.Sentence.{Sentence, text}
 use Rattle.sentence.specs.Reading.{Form, Result, sentence, refused, read}
 use Rattle.sentence.specs.Refusals.{refusal, verdict, readerOrder}
 use Rattle.sentence.specs.declared.Refusal.{Refusal}
 use Rattle.sentence.proofs.Shape.{read-formed}
 use Rattle.sheet.specs.Layout.{Buffers, buffers, recordOf, roomFor, laid}
 use Rattle.sheet.proofs.Held.{length-marks}
-use Rattle.sheet.proofs.Look.{some-bytes}
+use Rattle.sheet.proofs.Held.{some-bytes}
 use Rattle.sheet.specs.declared.Answer.{Answer}
 use Rattle.sheet.specs.declared.Answer.the-variants as answer
 use Rattle.sheet.specs.declared.Record.{Record}
@@ -25,18 +24,18 @@ use Rattle.load.specs.Load.{roomIn, lacks, readAnswer, readLeaves, ReadD
 
 -- ---- buffers that are the same
 pub same-self : (d : Buffers) → Same d d
-same-self d = record { text-is = refl; types-is = refl; boundaries-is = refl; char-pos-is = refl; byte-pos-is = refl; row-ends-is = refl; tag-ends-is = refl; tag-bytes-is = refl }
+same-self d = record { text-is = refl; types-is = refl; boundaries-is = refl; char-pos-is = refl; byte-pos-is = refl; cell-starts-is = refl; cell-lengths-is = refl; tag-bytes-is = refl }
 
 pub same-is : {b e : Buffers} → Same b e → e ≡ b
 same-is {b} {e} s = let z : whole e ≡ whole b = cc in z
   where
     whole : Buffers → Buffers
-    whole x = buffers (x .text-buf) (x .types-buf) (x .boundaries-buf) (x .char-pos-buf) (x .byte-pos-buf) (x .row-ends-buf) (x .tag-ends-buf) (x .tag-bytes-buf)
+    whole x = buffers (x .text-buf) (x .types-buf) (x .boundaries-buf) (x .char-pos-buf) (x .byte-pos-buf) (x .cell-starts-buf) (x .cell-lengths-buf) (x .tag-bytes-buf)
 
 -- the room that the code tests
 abbrev pub roomOf : Record → Buffers → Bool
 roomOf r d =
-    roomIn r (length (d .text-buf)) (length (d .types-buf)) (length (d .boundaries-buf)) (length (d .char-pos-buf)) (length (d .byte-pos-buf)) (length (d .row-ends-buf)) (length (d .tag-ends-buf)) (length (d .tag-bytes-buf))
+    roomIn r (length (d .text-buf)) (length (d .types-buf)) (length (d .boundaries-buf)) (length (d .char-pos-buf)) (length (d .byte-pos-buf)) (length (d .cell-starts-buf)) (length (d .cell-lengths-buf)) (length (d .tag-bytes-buf))
 
 room-is : (r : Record) (d : Buffers) → roomFor r d ≡ roomOf r d
 unfolding roomFor roomIn
@@ -87,11 +86,11 @@ module _ (x : Result) (d : Buffers) (a : Answer) (r : Record) (ok : Bool) (e : a
       let l = lacking (g .s) d ok r (g .counts) h true t in
       record { answer-is = rw (g .is, l); buffers-are = rw (g .is, l) (same-self d) }
 
-  pub read-fits : not ok ≡ false → Fits x d
-  unfolding lacks
+  pub read-fits : not ok ≡ false → Fits x (r .columns) d
+  unfolding lacks recordOf
   read-fits t =
       let g = found x a r e i in
-      rw (g .is) (not-false _ (lacking (g .s) d ok r (g .counts) h false t))
+      rw (g .is) (ap (λ (q : Record). q .columns) (g .counts), not-false _ (lacking (g .s) d ok r (g .counts) h false t))
 
   pub read-done : {b : Buffers} → not ok ≡ false → Same (filled x d) b → ReadDoes x d (answer.Sentence r) b
   read-done t s =

@@ -15,7 +15,7 @@ use Rattle.fill.specs.Fill.{Same}
 -- the room that a record needs, of buffers of these lengths
 unfoldable pub roomIn : Record → ℕ → ℕ → ℕ → ℕ → ℕ → ℕ → ℕ → ℕ → Bool
 roomIn r t y m c b w e g =
-    leb (r .b) t && leb (r .n) y && leb (r .n - 1) m && leb (r .n + 1) c && leb (r .b + 1) b && leb (r .n) w && leb (r .k) e && leb (r .g) g
+    leb (r .b) t && leb (r .n) y && leb (r .n - 1) m && leb (r .n + 1) c && leb (r .b + 1) b && leb (r .cells) w && leb (r .cells) e && leb (r .g) g
 
 -- the buffers lack room for a sentence
 unfoldable pub lacks : Buffers → Sentence → Bool

@@ -12,19 +12,19 @@ pub fn has_room(
     boundaries: usize,
     char_pos: usize,
     byte_pos: usize,
-    row_ends: usize,
-    tag_ends: usize,
+    cell_starts: usize,
+    cell_lengths: usize,
     tag_bytes: usize,
 ) -> bool
     requires { ⌜ (1 ≤ r .n) × (r .n ≤ 4096) × (r .b ≤ 4096) ⌝ }
-    ensures { λ ok. ⌜ ok ≡ roomIn r text types boundaries «char_pos» «byte_pos» «row_ends» «tag_ends» «tag_bytes» ⌝ }
+    ensures { λ ok. ⌜ ok ≡ roomIn r text types boundaries «char_pos» «byte_pos» «cell_starts» «cell_lengths» «tag_bytes» ⌝ }
 {
     (r.b <= text)
         & (r.n <= types)
         & (r.n - 1 <= boundaries)
         & (r.n + 1 <= char_pos)
         & (r.b + 1 <= byte_pos)
-        & (r.n <= row_ends)
-        & (r.k <= tag_ends)
+        & (r.cells <= cell_starts)
+        & (r.cells <= cell_lengths)
         & (r.g <= tag_bytes)
 }

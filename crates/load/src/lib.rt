@@ -18,11 +18,11 @@ pub fn load(
     boundaries: &mut [u8],
     char_pos: &mut [u16],
     byte_pos: &mut [u16],
-    row_ends: &mut [u16],
-    tag_ends: &mut [u16],
+    cell_starts: &mut [u16],
+    cell_lengths: &mut [u16],
     tag_bytes: &mut [u8],
 ) -> Answer
-    ensures { λ r. ⌜ ReadDoes (read (formOf form) (now (line .entry))) (buffers (now (text .entry)) (now (types .entry)) (now (boundaries .entry)) (now («char_pos» .entry)) (now («byte_pos» .entry)) (now («row_ends» .entry)) (now («tag_ends» .entry)) (now («tag_bytes» .entry))) r (buffers (now (text .exit)) (now (types .exit)) (now (boundaries .exit)) (now («char_pos» .exit)) (now («byte_pos» .exit)) (now («row_ends» .exit)) (now («tag_ends» .exit)) (now («tag_bytes» .exit))) ⌝ }
+    ensures { λ r. ⌜ ReadDoes (read (formOf form) (now (line .entry))) (buffers (now (text .entry)) (now (types .entry)) (now (boundaries .entry)) (now («char_pos» .entry)) (now («byte_pos» .entry)) (now («cell_starts» .entry)) (now («cell_lengths» .entry)) (now («tag_bytes» .entry))) r (buffers (now (text .exit)) (now (types .exit)) (now (boundaries .exit)) (now («char_pos» .exit)) (now («byte_pos» .exit)) (now («cell_starts» .exit)) (now («cell_lengths» .exit)) (now («tag_bytes» .exit))) ⌝ }
 {
     match scan::scan(form, line) {
         Answer::Refused(refusal) => Answer::Refused(refusal),
@@ -34,8 +34,8 @@ pub fn load(
                 boundaries.len(),
                 char_pos.len(),
                 byte_pos.len(),
-                row_ends.len(),
-                tag_ends.len(),
+                cell_starts.len(),
+                cell_lengths.len(),
                 tag_bytes.len(),
             ) {
                 return Answer::Refused(Refusal {
@@ -45,14 +45,15 @@ pub fn load(
             }
             fill::given::fill(
                 form,
+                r.columns,
                 line,
                 text,
                 types,
                 boundaries,
                 char_pos,
                 byte_pos,
-                row_ends,
-                tag_ends,
+                cell_starts,
+                cell_lengths,
                 tag_bytes,
             );
             Answer::Sentence(r)

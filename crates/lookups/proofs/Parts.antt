@@ -1,18 +1,16 @@
 -- What the answered parts are: a surface's bytes, and those of a cell of Rust's padded table; each lies within its buffer; positions lead back. Assumes nothing.
-use Prim.Native.Nat.{ℕ, zero, suc, _+_, _-_, _≤_, _<_}
-use native.Mathlib.Decide.{decLt}
+use Prim.Native.Nat.{ℕ, zero, suc, _+_, _-_, _*_, _≤_, _<_}
 use native.Mathlib.Omega.{arith}
-use mathlib.Core.Path.{_≡_, refl, sym, ap, _∙_}
+use mathlib.Core.Path.{_≡_, refl, sym, _∙_}
 use mathlib.Core.Bool.{true, false, not, _||_}
-use mathlib.Core.List.{List, [], _∷_, _++_, map}
+use mathlib.Core.List.{List, [], _∷_, map}
 use borrow.Author.Tests.{le-ltb, leb-false, ltb-false, not-false}
 use lib.Dec.{leb, ltb}
-use lib.ListN.{length, take, drop, getD, replicate, List·getD-append, List·getD-eq-default}
-use lib.Seq.{getD-append-add}
+use lib.ListN.{length, take, drop, getD}
 use Rattle.laws.specs.If.{if_then_else_}
 use Rattle.utf8.specs.Utf8.{encodes, size}
 use Rattle.sentence.specs.declared.Refusal.{Refusal}
-use Rattle.sentence.specs.Sentence.{Tag, Sentence, text, rows, count, charPositions, bytePositions, listed, pad, table}
+use Rattle.sentence.specs.Sentence.{Tag, Sentence, text, rows, count, charPositions, bytePositions, rowBytes, pad, table}
 use Rattle.sentence.specs.Writing.{surface}
 use Rattle.sentence.specs.Refusals.{verdict, sheetOrder}
 use Rattle.sheet.specs.declared.Record.{Record}
@@ -23,33 +21,15 @@ use Rattle.sheet.specs.Layout.{Buffers, buffers, Holds, spell}
 use Rattle.sheet.specs.Check.{isSheet}
 use Rattle.sheet.proofs.Held.{length-starts}
 use Rattle.sheet.proofs.Exact.{is-sheet}
-use Rattle.sheet.proofs.Look.{start-is, number-is, bounds, bytes-before, bytes-more, text-part, tag-part, tag-inside, tag-next, bytes-among, tag-in-row, neither, passed}
+use Rattle.sheet.proofs.Look.{start-is, number-is, bounds, bytes-before, bytes-more, text-part, pad-at, cells, cell-part, cell-inside, cell-next, cell-fits, cell-in-row, cell-at, neither, passed}
 use Rattle.lookups.specs.Answers.{startAt, strToCharPos, surfacePart, surfaceAt, cell, cellStart, tagPart, tagAt}
-use Rattle.lookups.proofs.Laws.{found-at, start-sized, row-at}
-
-none : (k i : ℕ) → getD {A = Tag} (replicate k []) i [] ≡ []
-none zero i = refl
-none (suc k) zero = refl
-none (suc k) (suc i) = none k i
-
--- an absent tag at every column past the row
-padded : (n : ℕ) (r : List Tag) (c : ℕ) → getD (pad n r) c [] ≡ getD r c []
-unfolding pad
-padded n r c =
-    elim (decLt c (length r)) [
-      | yes h ↦ List·getD-append r (replicate (n - length r) []) [] c h
-      | no h ↦ let e : c ≡ length r + (c - length r) = omega arith in
-          ap (λ (i : ℕ). getD (r ++ replicate (n - length r) []) i []) e
-          ∙ getD-append-add r (replicate (n - length r) []) (c - length r) []
-          ∙ none (n - length r) (c - length r)
-          ∙ sym (List·getD-eq-default r [] {n = c} (omega arith))
-    ]
+use Rattle.lookups.proofs.Laws.{found-at, start-sized}
 
 -- a cell is one of the padded table
 pub cell-of-table : (s : Sentence) (row column : ℕ) → row < length (rows s) → getD (getD (table s) row []) column [] ≡ cell s row column
 cell-of-table s row column h =
     let e : getD (table s) row [] ≡ pad (s .columns) (getD (rows s) row []) = mapped (rows s) row h in
-    rw e (padded (s .columns) (getD (rows s) row []) column)
+    rw e (pad-at (s .columns) (getD (rows s) row []) column)
   where
     mapped : (rs : List (List Tag)) (i : ℕ) → i < length rs → getD (map (pad (s .columns)) rs) i [] ≡ pad (s .columns) (getD rs i [])
     mapped [] i k = absurd (omega arith)
@@ -81,28 +61,19 @@ module _ {r : Record} {d : Buffers} {s : Sentence} (h : Holds r d s) where
       let y = start-sized h e l in
       (omega (arith, bytes-more (text s) b e k), omega (arith, bounds h, bytes-before (text s) e))
 
-  -- the bytes of a tag that its row lists, within the tag bytes
-  pub cell-here : (row column : ℕ) → row < r .n → column < length (getD (rows s) row [])
+  -- the bytes of a cell's tag, within the tag bytes
+  pub cell-here : (row column : ℕ) → row < r .n → column < r .columns
       → (cellStart (rows s) row column + size (cell s row column) ≤ length (d .tag-bytes-buf))
       × (take (size (cell s row column)) (drop (cellStart (rows s) row column) (d .tag-bytes-buf)) ≡ encodes (cell s row column))
   unfolding cellStart
   cell-here row column k l =
-      let j = listed (take row (rows s)) + column in
-      let a = row-at h row k in
-      let i : j < r .k = omega arith in
-      let t = tag-in-row h row column k l in
-      let b = bytes-among (rows s) row column (omega (arith, bounds h)) (omega arith) in
-      let n = tag-next h j i in
-      let m = tag-inside h (j + 1) (omega arith) in
-      (rw (← b, ← t) (omega (arith, bounds h)), rw (← b, ← t) (tag-part h j i))
-
-  -- a tag that is not empty is one that its row lists
-  pub cell-listed : (row column : ℕ) → (cell s row column ≡ [] → ⊥) → column < length (getD (rows s) row [])
-  cell-listed row column n =
-      elim (decLt column (length (getD (rows s) row []))) [
-        | yes l ↦ l
-        | no l ↦ absurd (n (List·getD-eq-default (getD (rows s) row []) [] {n = column} (omega arith)))
-      ]
+      let j = row * r .columns + column in
+      let i = cell-fits h row column k l in
+      let t = cell-in-row h row column k l in
+      let b = cell-at h row column k (omega arith) in
+      let n = cell-next h j i in
+      let m = cell-inside h (j + 1) in
+      (rw (← b, ← t) (omega (arith, bounds h)), rw (← b, ← t) (cell-part h j i))
 
 -- ---- an answered part lies within its buffer
 apart : (p q : ℕ) (x : Refusal) → part.Refused x ≡ part.Bytes p q → ⊥
@@ -135,7 +106,7 @@ tag-within r d row column a p q f g =
     let h = is-sheet r d (not-false _ (k .0 .0)) in
     let o = neither (leb (count s) row) (leb (s .columns) column) (k .0 .1 .0) in
     let z = tag-bounds (cellStart (rows s) row column) (cell s row column) p q (k .1) in
-    let i = cell-here h row column (omega (arith, leb-false (count s) row (o .0), bounds h)) (cell-listed h row column (z .2)) .0 in
+    let i = cell-here h row column (omega (arith, leb-false (count s) row (o .0), bounds h)) (omega (arith, leb-false (s .columns) column (o .1), bounds h)) .0 in
     (omega (arith, z .0, z .1), omega (arith, z .1))
 
 -- the same for a caller that holds the eight slices, fact by fact

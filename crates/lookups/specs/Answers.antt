@@ -1,5 +1,5 @@
 -- What the look-ups answer, of whether there is a sheet and of the sentence that it spells: 13 where there is none, then 14 at the first number given.
-use Prim.Native.Nat.{ℕ, zero, suc, _+_, _-_}
+use Prim.Native.Nat.{ℕ, _+_, _-_}
 use mathlib.Core.Bool.{Bool, false, not, _||_}
 use mathlib.Core.List.{List, [], _∷_}
 use lib.Dec.{leb, ltb, eqb}
@@ -67,8 +67,3 @@ unfoldable pub surfaceAt : Bool → Sentence → ℕ → ℕ → Part
 surfaceAt good s b e =
     verdict part.Refused (sheetOrder (not good) (leb e b || ltb (count s) e) b false 0)
     (surfacePart s b e)
-
--- where the i-th of some parts begins that end where told: the end before it
-abbrev pub edge : List ℕ → ℕ → ℕ
-edge ends zero = 0
-edge ends (suc i) = getD ends i 0

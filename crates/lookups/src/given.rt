@@ -6,21 +6,9 @@ use sheet::Record;
 ghost use mathlib.Core.Path.{_≡_};
 ghost use mathlib.Core.Bool.{true};
 ghost use Prim.Native.Nat.{_-_, _≤_, _<_};
-ghost use lib.ListN.{length};
 ghost use Rattle.sentence.specs.Sentence.{rows};
 ghost use Rattle.sheet.specs.Layout.{buffers, spell, Sheet};
-ghost use Rattle.lookups.specs.Answers.{startAt, strToCharPos, markAt, tagPart, cellStart, cell, surfacePart, edge};
-
-// Where the i-th of some parts begins that end where told.
-pub fn edge(ends: &[u16], i: usize) -> usize
-    requires { ⌜ i ≤ length (now ends) ⌝ }
-    ensures { λ a. ⌜ a ≡ edge (now (ends .entry)) i ⌝ }
-{
-    if i == 0 {
-        return 0;
-    }
-    ends[i - 1] as usize
-}
+ghost use Rattle.lookups.specs.Answers.{startAt, strToCharPos, markAt, tagPart, cellStart, cell, surfacePart};
 
 // The byte position of a character.
 pub fn char_to_str_pos(
@@ -30,13 +18,13 @@ pub fn char_to_str_pos(
     boundaries: &[u8],
     char_pos: &[u16],
     byte_pos: &[u16],
-    row_ends: &[u16],
-    tag_ends: &[u16],
+    cell_starts: &[u16],
+    cell_lengths: &[u16],
     tag_bytes: &[u8],
     i: usize,
 ) -> usize
-    requires { ⌜ Sheet r (buffers (now text) (now types) (now boundaries) (now «char_pos») (now «byte_pos») (now «row_ends») (now «tag_ends») (now «tag_bytes»)) × (i ≤ r .n) ⌝ }
-    ensures { λ a. ⌜ a ≡ startAt (spell r (buffers (now (text .entry)) (now (types .entry)) (now (boundaries .entry)) (now («char_pos» .entry)) (now («byte_pos» .entry)) (now («row_ends» .entry)) (now («tag_ends» .entry)) (now («tag_bytes» .entry)))) i ⌝ }
+    requires { ⌜ Sheet r (buffers (now text) (now types) (now boundaries) (now «char_pos») (now «byte_pos») (now «cell_starts») (now «cell_lengths») (now «tag_bytes»)) × (i ≤ r .n) ⌝ }
+    ensures { λ a. ⌜ a ≡ startAt (spell r (buffers (now (text .entry)) (now (types .entry)) (now (boundaries .entry)) (now («char_pos» .entry)) (now («byte_pos» .entry)) (now («cell_starts» .entry)) (now («cell_lengths» .entry)) (now («tag_bytes» .entry)))) i ⌝ }
 {
     char_pos[i] as usize
 }
@@ -49,13 +37,13 @@ pub fn str_to_char_pos(
     boundaries: &[u8],
     char_pos: &[u16],
     byte_pos: &[u16],
-    row_ends: &[u16],
-    tag_ends: &[u16],
+    cell_starts: &[u16],
+    cell_lengths: &[u16],
     tag_bytes: &[u8],
     p: usize,
 ) -> Number
-    requires { ⌜ Sheet r (buffers (now text) (now types) (now boundaries) (now «char_pos») (now «byte_pos») (now «row_ends») (now «tag_ends») (now «tag_bytes»)) × (p ≤ r .b) ⌝ }
-    ensures { λ a. ⌜ a ≡ strToCharPos true (spell r (buffers (now (text .entry)) (now (types .entry)) (now (boundaries .entry)) (now («char_pos» .entry)) (now («byte_pos» .entry)) (now («row_ends» .entry)) (now («tag_ends» .entry)) (now («tag_bytes» .entry)))) p ⌝ }
+    requires { ⌜ Sheet r (buffers (now text) (now types) (now boundaries) (now «char_pos») (now «byte_pos») (now «cell_starts») (now «cell_lengths») (now «tag_bytes»)) × (p ≤ r .b) ⌝ }
+    ensures { λ a. ⌜ a ≡ strToCharPos true (spell r (buffers (now (text .entry)) (now (types .entry)) (now (boundaries .entry)) (now («char_pos» .entry)) (now («byte_pos» .entry)) (now («cell_starts» .entry)) (now («cell_lengths» .entry)) (now («tag_bytes» .entry)))) p ⌝ }
 {
     let i = byte_pos[p] as usize;
     if char_pos[i] as usize == p {
@@ -75,13 +63,13 @@ pub fn boundary(
     boundaries: &[u8],
     char_pos: &[u16],
     byte_pos: &[u16],
-    row_ends: &[u16],
-    tag_ends: &[u16],
+    cell_starts: &[u16],
+    cell_lengths: &[u16],
     tag_bytes: &[u8],
     i: usize,
 ) -> usize
-    requires { ⌜ Sheet r (buffers (now text) (now types) (now boundaries) (now «char_pos») (now «byte_pos») (now «row_ends») (now «tag_ends») (now «tag_bytes»)) × (i < r .n - 1) ⌝ }
-    ensures { λ a. ⌜ a ≡ markAt (spell r (buffers (now (text .entry)) (now (types .entry)) (now (boundaries .entry)) (now («char_pos» .entry)) (now («byte_pos» .entry)) (now («row_ends» .entry)) (now («tag_ends» .entry)) (now («tag_bytes» .entry)))) i ⌝ }
+    requires { ⌜ Sheet r (buffers (now text) (now types) (now boundaries) (now «char_pos») (now «byte_pos») (now «cell_starts») (now «cell_lengths») (now «tag_bytes»)) × (i < r .n - 1) ⌝ }
+    ensures { λ a. ⌜ a ≡ markAt (spell r (buffers (now (text .entry)) (now (types .entry)) (now (boundaries .entry)) (now («char_pos» .entry)) (now («byte_pos» .entry)) (now («cell_starts» .entry)) (now («cell_lengths» .entry)) (now («tag_bytes» .entry)))) i ⌝ }
 {
     boundaries[i] as usize
 }
@@ -94,27 +82,25 @@ pub fn tag(
     boundaries: &[u8],
     char_pos: &[u16],
     byte_pos: &[u16],
-    row_ends: &[u16],
-    tag_ends: &[u16],
+    cell_starts: &[u16],
+    cell_lengths: &[u16],
     tag_bytes: &[u8],
     row: usize,
     column: usize,
 ) -> Part
-    requires { ⌜ Sheet r (buffers (now text) (now types) (now boundaries) (now «char_pos») (now «byte_pos») (now «row_ends») (now «tag_ends») (now «tag_bytes»)) × (row < r .n) ⌝ }
-    ensures { λ a. ⌜ a ≡ tagPart (cellStart (rows (spell r (buffers (now (text .entry)) (now (types .entry)) (now (boundaries .entry)) (now («char_pos» .entry)) (now («byte_pos» .entry)) (now («row_ends» .entry)) (now («tag_ends» .entry)) (now («tag_bytes» .entry))))) row column) (cell (spell r (buffers (now (text .entry)) (now (types .entry)) (now (boundaries .entry)) (now («char_pos» .entry)) (now («byte_pos» .entry)) (now («row_ends» .entry)) (now («tag_ends» .entry)) (now («tag_bytes» .entry)))) row column) ⌝ }
+    requires { ⌜ Sheet r (buffers (now text) (now types) (now boundaries) (now «char_pos») (now «byte_pos») (now «cell_starts») (now «cell_lengths») (now «tag_bytes»)) × (row < r .n) × (column < r .columns) ⌝ }
+    ensures { λ a. ⌜ a ≡ tagPart (cellStart (rows (spell r (buffers (now (text .entry)) (now (types .entry)) (now (boundaries .entry)) (now («char_pos» .entry)) (now («byte_pos» .entry)) (now («cell_starts» .entry)) (now («cell_lengths» .entry)) (now («tag_bytes» .entry))))) row column) (cell (spell r (buffers (now (text .entry)) (now (types .entry)) (now (boundaries .entry)) (now («char_pos» .entry)) (now («byte_pos» .entry)) (now («cell_starts» .entry)) (now («cell_lengths» .entry)) (now («tag_bytes» .entry)))) row column) ⌝ }
 {
-    let first = edge(row_ends, row);
-    let last = row_ends[row] as usize;
-    if column >= last - first {
+    let j = row * r.columns + column;
+    let start = cell_starts[j] as usize;
+    let len = cell_lengths[j] as usize;
+    if len == 0 {
         return Part::Absent;
     }
-    let j = first + column;
-    let start = edge(tag_ends, j);
-    let end = tag_ends[j] as usize;
-    if start == end {
-        return Part::Absent;
+    Part::Bytes {
+        start,
+        end: start + len,
     }
-    Part::Bytes { start, end }
 }
 
 // The part of a surface.
@@ -125,14 +111,14 @@ pub fn surface(
     boundaries: &[u8],
     char_pos: &[u16],
     byte_pos: &[u16],
-    row_ends: &[u16],
-    tag_ends: &[u16],
+    cell_starts: &[u16],
+    cell_lengths: &[u16],
     tag_bytes: &[u8],
     start: usize,
     end: usize,
 ) -> Part
-    requires { ⌜ Sheet r (buffers (now text) (now types) (now boundaries) (now «char_pos») (now «byte_pos») (now «row_ends») (now «tag_ends») (now «tag_bytes»)) × (start ≤ r .n) × (end ≤ r .n) ⌝ }
-    ensures { λ a. ⌜ a ≡ surfacePart (spell r (buffers (now (text .entry)) (now (types .entry)) (now (boundaries .entry)) (now («char_pos» .entry)) (now («byte_pos» .entry)) (now («row_ends» .entry)) (now («tag_ends» .entry)) (now («tag_bytes» .entry)))) start end ⌝ }
+    requires { ⌜ Sheet r (buffers (now text) (now types) (now boundaries) (now «char_pos») (now «byte_pos») (now «cell_starts») (now «cell_lengths») (now «tag_bytes»)) × (start ≤ r .n) × (end ≤ r .n) ⌝ }
+    ensures { λ a. ⌜ a ≡ surfacePart (spell r (buffers (now (text .entry)) (now (types .entry)) (now (boundaries .entry)) (now («char_pos» .entry)) (now («byte_pos» .entry)) (now («cell_starts» .entry)) (now («cell_lengths» .entry)) (now («tag_bytes» .entry)))) start end ⌝ }
 {
     Part::Bytes {
         start: char_pos[start] as usize,

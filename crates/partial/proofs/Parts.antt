@@ -81,26 +81,28 @@ absent-row n = let z : n - 0 ≡ n = omega arith in encodes-tags partial (pad n 
 
 -- ---- the parts of a sheet
 module _ (d : Buffers) where
-  abbrev pub charIn : ℕ → ℕ → List ℕ
-  charIn n i = charLine n (d .text-buf) (d .char-pos-buf) (d .row-ends-buf) (d .tag-ends-buf) (d .tag-bytes-buf) i
-
   abbrev pub textIn : ℕ → List ℕ
   textIn i = textAt (d .char-pos-buf) (d .text-buf) i (i + 1)
-
-  abbrev pub stretchIn : ℕ → ℕ → ℕ → List ℕ
-  stretchIn n i k = stretchOf (d .text-buf) (d .boundaries-buf) (d .char-pos-buf) (d .row-ends-buf) (d .tag-ends-buf) (d .tag-bytes-buf) n i k
 
   abbrev pub coveredIn : ℕ → ℕ → List ℕ
   coveredIn i k = coveredOf (d .text-buf) (d .char-pos-buf) i k
 
-  abbrev pub beforeIn : ℕ → ℕ → List ℕ
-  beforeIn n k = beforeOf (d .text-buf) (d .boundaries-buf) (d .char-pos-buf) (d .row-ends-buf) (d .tag-ends-buf) (d .tag-bytes-buf) n k
-
-  abbrev pub restIn : ℕ → ℕ → ℕ → List ℕ
-  restIn n i last = restOf (d .text-buf) (d .boundaries-buf) (d .char-pos-buf) (d .row-ends-buf) (d .tag-ends-buf) (d .tag-bytes-buf) n i last
-
   abbrev pub bareIn : ℕ → ℕ → List ℕ
   bareIn n i = bareOf (d .text-buf) (d .char-pos-buf) n i
+
+-- and those with rows of m cells each
+module _ (d : Buffers) (m : ℕ) where
+  abbrev pub charIn : ℕ → ℕ → List ℕ
+  charIn n i = charLine n (d .text-buf) (d .char-pos-buf) (d .cell-starts-buf) (d .cell-lengths-buf) (d .tag-bytes-buf) m i
+
+  abbrev pub stretchIn : ℕ → ℕ → ℕ → List ℕ
+  stretchIn n i k = stretchOf (d .text-buf) (d .boundaries-buf) (d .char-pos-buf) (d .cell-starts-buf) (d .cell-lengths-buf) (d .tag-bytes-buf) m n i k
+
+  abbrev pub beforeIn : ℕ → ℕ → List ℕ
+  beforeIn n k = beforeOf (d .text-buf) (d .boundaries-buf) (d .char-pos-buf) (d .cell-starts-buf) (d .cell-lengths-buf) (d .tag-bytes-buf) m n k
+
+  abbrev pub restIn : ℕ → ℕ → ℕ → List ℕ
+  restIn n i last = restOf (d .text-buf) (d .boundaries-buf) (d .char-pos-buf) (d .cell-starts-buf) (d .cell-lengths-buf) (d .tag-bytes-buf) m n i last
 
 module _ {r : Record} {d : Buffers} {s : Sentence} (h : Holds r d s) (n b e : ℕ) where
   text-at : (i : ℕ) → i < r .n → textIn d i ≡ encodes (getD (text s) i 0 ∷ [])
@@ -132,7 +134,7 @@ module _ {r : Record} {d : Buffers} {s : Sentence} (h : Holds r d s) (n b e : �
       rw (text-at i k, text-shown h n b e i k, marks-end h n b e i (omega arith), row-shown h n b e i k) (encodes-last _ _)
 
   -- its row, shown or hidden
-  row-open : (i w : ℕ) → i < r .n → inRange b e i ≡ false → textIn d i ++ encodes (writeTags partial (pad w (rowIn b e s i))) ≡ charIn d w i
+  row-open : (i w : ℕ) → i < r .n → inRange b e i ≡ false → textIn d i ++ encodes (writeTags partial (pad w (rowIn b e s i))) ≡ charIn d (r .columns) w i
   row-open i w l q = rw (if-false (inRange b e i) [] (getD (rows s) i []) q, row-line h partial w i l)
 
   row-covered : (i w : ℕ) → inRange b e i ≡ true → textIn d i ++ encodes (writeTags partial (pad w (rowIn b e s i))) ≡ bareIn d w i
@@ -141,14 +143,14 @@ module _ {r : Record} {d : Buffers} {s : Sentence} (h : Holds r d s) (n b e : �
   -- a character whose boundary does not touch the range
   left-open : (i : ℕ) → i + 1 < r .n → touches b e i ≡ false → inRange b e i ≡ false
       → leftFrom (shownOf n b e s) i
-      ≡ charIn d (if eqb (getD (d .boundaries-buf) i 0) 1 then n else 0) i ++ (sign (markOf (getD (d .boundaries-buf) i 0)) ∷ leftFrom (shownOf n b e s) (i + 1))
+      ≡ charIn d (r .columns) (if eqb (getD (d .boundaries-buf) i 0) 1 then n else 0) i ++ (sign (markOf (getD (d .boundaries-buf) i 0)) ∷ leftFrom (shownOf n b e s) (i + 1))
   left-open i l p q =
       let m = getD (d .boundaries-buf) i 0 in
       let w = if eqb m 1 then n else 0 in
       left-step i l m w (sym (if-false (touches b e i) 2 m p)) refl ∙ rw (row-open i w (omega arith) q)
 
   -- one that is itself outside, and whose boundary touches the range
-  left-touched : (i : ℕ) → i + 1 < r .n → touches b e i ≡ true → inRange b e i ≡ false → leftFrom (shownOf n b e s) i ≡ charIn d 0 i ++ (32 ∷ leftFrom (shownOf n b e s) (i + 1))
+  left-touched : (i : ℕ) → i + 1 < r .n → touches b e i ≡ true → inRange b e i ≡ false → leftFrom (shownOf n b e s) i ≡ charIn d (r .columns) 0 i ++ (32 ∷ leftFrom (shownOf n b e s) (i + 1))
   left-touched i l p q =
       let m = getD (d .boundaries-buf) i 0 in
       left-step i l 2 0 (sym (if-true (touches b e i) 2 m p)) (sym (if-false (eqb 2 1) n 0 refl)) ∙ rw (row-open i 0 (omega arith) q, sign-unknown)
@@ -161,7 +163,7 @@ module _ {r : Record} {d : Buffers} {s : Sentence} (h : Holds r d s) (n b e : �
 
   -- k characters whose boundaries do not touch the range, and k characters of it
   left-stretch : (k i : ℕ) → i + k < r .n → ((j : ℕ) → i ≤ j → j < i + k → (touches b e j ≡ false) × (inRange b e j ≡ false))
-      → leftFrom (shownOf n b e s) i ≡ stretchIn d n i k ++ leftFrom (shownOf n b e s) (i + k)
+      → leftFrom (shownOf n b e s) i ≡ stretchIn d (r .columns) n i k ++ leftFrom (shownOf n b e s) (i + k)
   unfolding stretchOf
   left-stretch zero i l f = rw add-zero
   left-stretch (suc k) i l f =
@@ -169,7 +171,7 @@ module _ {r : Record} {d : Buffers} {s : Sentence} (h : Holds r d s) (n b e : �
       let o = f i (omega arith) (omega arith) in
       left-open i (omega arith) (o .0) (o .1)
       ∙ rw (left-stretch k (i + 1) (omega arith) (λ j x y. f j (omega arith) (omega arith)), q)
-      (sym (append-assoc (charIn d (if eqb (getD (d .boundaries-buf) i 0) 1 then n else 0) i) (sign (markOf (getD (d .boundaries-buf) i 0)) ∷ stretchIn d n (i + 1) k) (leftFrom (shownOf n b e s) (i + 1 + k))))
+      (sym (append-assoc (charIn d (r .columns) (if eqb (getD (d .boundaries-buf) i 0) 1 then n else 0) i) (sign (markOf (getD (d .boundaries-buf) i 0)) ∷ stretchIn d (r .columns) n (i + 1) k) (leftFrom (shownOf n b e s) (i + 1 + k))))
 
   left-hides : (k i : ℕ) → i + k < r .n → ((j : ℕ) → i ≤ j → j < i + k → inRange b e j ≡ true)
       → leftFrom (shownOf n b e s) i ≡ coveredIn d i k ++ leftFrom (shownOf n b e s) (i + k)
@@ -182,7 +184,7 @@ module _ {r : Record} {d : Buffers} {s : Sentence} (h : Holds r d s) (n b e : �
       (sym (append-assoc (textIn d i) (32 ∷ coveredIn d (i + 1) k) (leftFrom (shownOf n b e s) (i + 1 + k))))
 
   -- from a character on, where none is in the range
-  left-rest : (i : ℕ) → i < r .n → ((j : ℕ) → i ≤ j → (touches b e j ≡ false) × (inRange b e j ≡ false)) → leftFrom (shownOf n b e s) i ≡ restIn d n i (r .n - 1)
+  left-rest : (i : ℕ) → i < r .n → ((j : ℕ) → i ≤ j → (touches b e j ≡ false) × (inRange b e j ≡ false)) → leftFrom (shownOf n b e s) i ≡ restIn d (r .columns) n i (r .n - 1)
   left-rest i l f =
       let last = r .n - 1 in
       let k : i + (last - i) ≡ last = omega arith in
@@ -190,7 +192,7 @@ module _ {r : Record} {d : Buffers} {s : Sentence} (h : Holds r d s) (n b e : �
       ∙ rw (k, left-end last refl, row-open last n (omega arith) (f last (omega arith) .1))
 
   -- up to the range
-  left-before : (k : ℕ) → k ≡ b → b < e → e ≤ r .n → leftFrom (shownOf n b e s) 0 ≡ beforeIn d n k ++ leftFrom (shownOf n b e s) k
+  left-before : (k : ℕ) → k ≡ b → b < e → e ≤ r .n → leftFrom (shownOf n b e s) 0 ≡ beforeIn d (r .columns) n k ++ leftFrom (shownOf n b e s) k
   unfolding beforeOf
   left-before zero q l o = refl
   left-before (suc p) q l o =
@@ -198,32 +200,32 @@ module _ {r : Record} {d : Buffers} {s : Sentence} (h : Holds r d s) (n b e : �
       let z : suc p ≡ p + 1 = omega arith in
       left-stretch p 0 (omega arith) (λ j x y. (free-before b e j (omega arith), out-before b e j (omega arith)))
       ∙ rw (y, left-touched p (omega arith) (edge-touches b e p (omega arith) l) (out-before b e p (omega arith)), z)
-      (ap (λ (x : List ℕ). stretchIn d n 0 p ++ x) (sym (append-assoc (charIn d 0 p) (32 ∷ []) (leftFrom (shownOf n b e s) (p + 1))))
-      ∙ sym (append-assoc (stretchIn d n 0 p) (charIn d 0 p ++ (32 ∷ [])) (leftFrom (shownOf n b e s) (p + 1))))
+      (ap (λ (x : List ℕ). stretchIn d (r .columns) n 0 p ++ x) (sym (append-assoc (charIn d (r .columns) 0 p) (32 ∷ []) (leftFrom (shownOf n b e s) (p + 1))))
+      ∙ sym (append-assoc (stretchIn d (r .columns) n 0 p) (charIn d (r .columns) 0 p ++ (32 ∷ [])) (leftFrom (shownOf n b e s) (p + 1))))
 
   -- ---- the line
   abbrev pub lineIn : List ℕ
   lineIn = written partial (shownOf n b e s)
 
-  pub line-whole : b ≡ e → lineIn ≡ restIn d n 0 (r .n - 1)
+  pub line-whole : b ≡ e → lineIn ≡ restIn d (r .columns) n 0 (r .n - 1)
   line-whole q = sym (left-start (shownOf n b e s)) ∙ left-rest 0 (omega (arith, bounds h)) (λ j x. (none-touch b e j (omega arith), none-in b e j (omega arith)))
 
   module _ (l : b < e) where
-    pub line-to-end : e ≡ r .n → lineIn ≡ beforeIn d n b ++ (coveredIn d b (r .n - 1 - b) ++ bareIn d n (r .n - 1))
+    pub line-to-end : e ≡ r .n → lineIn ≡ beforeIn d (r .columns) n b ++ (coveredIn d b (r .n - 1 - b) ++ bareIn d n (r .n - 1))
     line-to-end q =
         let last = r .n - 1 in
         let k : b + (last - b) ≡ last = omega arith in
         sym (left-start (shownOf n b e s))
         ∙ left-before b refl l (omega arith)
-        ∙ ap (λ (x : List ℕ). beforeIn d n b ++ x)
+        ∙ ap (λ (x : List ℕ). beforeIn d (r .columns) n b ++ x)
         (left-hides (last - b) b (omega arith) (λ j x y. in-range b e j x (omega arith))
         ∙ rw (k, left-end last refl, row-covered last n (in-range b e last (omega arith) (omega arith))))
 
-    pub line-within : e < r .n → lineIn ≡ beforeIn d n b ++ (coveredIn d b (e - b) ++ restIn d n e (r .n - 1))
+    pub line-within : e < r .n → lineIn ≡ beforeIn d (r .columns) n b ++ (coveredIn d b (e - b) ++ restIn d (r .columns) n e (r .n - 1))
     line-within q =
         let k : b + (e - b) ≡ e = omega arith in
         sym (left-start (shownOf n b e s))
         ∙ left-before b refl l (omega arith)
-        ∙ ap (λ (x : List ℕ). beforeIn d n b ++ x)
+        ∙ ap (λ (x : List ℕ). beforeIn d (r .columns) n b ++ x)
         (left-hides (e - b) b (omega arith) (λ j x y. in-range b e j x (omega arith))
         ∙ rw (k, left-rest e q (λ j x. (free-behind b e j x, out-behind b e j x))))

@@ -1,5 +1,5 @@
 -- The columns that have a present tag outside a range, and a loop that finds them. Assumes nothing.
-use Prim.Native.Nat.{ℕ, zero, suc, _+_, _≤_, _<_, max}
+use Prim.Native.Nat.{ℕ, zero, suc, _+_, _*_, _≤_, _<_, max}
 use mathlib.Core.Path.{_≡_, ap, _∙_}
 use mathlib.Core.Bool.{false}
 use mathlib.Core.List.{List, [], _∷_}
@@ -13,9 +13,8 @@ use Rattle.sheet.specs.declared.Record.{Record}
 use Rattle.sheet.specs.Layout.{Buffers, Holds, spell, Sheet}
 use Rattle.sheet.proofs.Held.{columns-held}
 use Rattle.sheet.proofs.Look.{Bounds, bounds}
-use Rattle.lookups.specs.Answers.{edge}
-use Rattle.lookups.proofs.Laws.{row-at}
-use Rattle.pieces.specs.Pieces.{countAt}
+use Rattle.pieces.specs.Pieces.{countAt, Follow}
+use Rattle.pieces.proofs.Held.{row-lies, count-is}
 use Rattle.partial.specs.Line.{Asked}
 use Rattle.partial.proofs.Shown.{rowIn, row-at-shown, row-shown, rows-end}
 
@@ -29,10 +28,6 @@ unfolding longest rowsOf widest
 longest-cells (final c r) = omega arith
 longest-cells (cell c r m u) = rw (longest-cells u)
 
--- a row lists so many tags
-pub count-is : {r : Record} {d : Buffers} {s : Sentence} → Holds r d s → (i : ℕ) → i < r .n → countAt (d .row-ends-buf) i ≡ length (getD (rows s) i [])
-count-is h i l = omega (arith, row-at h i l .last-is)
-
 -- a row that shows has no more tags than the longest
 row-longest : (u : Cells) (i : ℕ) → length (getD (rowsOf u) i []) ≤ widest u
 unfolding rowsOf widest
@@ -41,7 +36,7 @@ row-longest (final c r) (suc i) = omega arith
 row-longest (cell c r m u) zero = omega arith
 row-longest (cell c r m u) (suc i) = omega (arith, row-longest u i)
 
-pub count-few : {r : Record} {d : Buffers} {s : Sentence} → Holds r d s → (b e i : ℕ) → i < r .n → inRange b e i ≡ false → countAt (d .row-ends-buf) i ≤ widest (hidden b e 0 (s .cells))
+pub count-few : {r : Record} {d : Buffers} {s : Sentence} → Holds r d s → (b e i : ℕ) → i < r .n → inRange b e i ≡ false → countAt (d .cell-lengths-buf) (r .columns) i ≤ widest (hidden b e 0 (s .cells))
 count-few {r} {d} {s} h b e i l q =
     let x : getD (rowsOf (hidden b e 0 (s .cells))) i [] ≡ getD (rows s) i [] = row-at-shown h b e i l ∙ if-false (inRange b e i) [] (getD (rows s) i []) q in
     omega (arith, count-is h i l, ap length x, row-longest (hidden b e 0 (s .cells)) i)
@@ -67,10 +62,10 @@ pub seek-start : {r : Record} {d : Buffers} (b e : ℕ) → Sheet r d → Seekin
 seek-start {r} {d} b e h = record { sheet = h; known = bounds h; upto = omega arith; same = omega (arith, longest-cells (hidden b e 0 (spell r d .cells))) }
 
 module _ {r : Record} {d : Buffers} {b e w i : ℕ} (t : Seeking r d b e w i) where
-  pub seek-asks : i < r .n → (i < length (d .row-ends-buf)) × (edge (d .row-ends-buf) i ≤ getD (d .row-ends-buf) i 0)
-  seek-asks l = (omega (arith, t .known), omega (arith, row-at (t .sheet) i l .last-is))
+  pub seek-asks : i < r .n → Follow (d .cell-starts-buf) (d .cell-lengths-buf) (i * r .columns + r .columns)
+  seek-asks l = row-lies (t .sheet) i l .cells
 
-  module _ (l : i < r .n) {k : ℕ} (c : k ≡ (if inRange b e i then 0 else countAt (d .row-ends-buf) i)) where
+  module _ (l : i < r .n) {k : ℕ} (c : k ≡ (if inRange b e i then 0 else countAt (d .cell-lengths-buf) (r .columns) i)) where
     counted : k ≡ length (rowIn b e (spell r d) i)
     counted =
         c ∙ rw (count-is (t .sheet) i l, if-map length (inRange b e i) [] (getD (rows (spell r d)) i []))

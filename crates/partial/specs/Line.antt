@@ -26,19 +26,19 @@ pub record Asked (r : Record) (d : Buffers) (n b e : ℕ) : Type 0 where
 pub record Spread (ps text : List ℕ) (n : ℕ) : Type 0 where
   pub lies : (i : ℕ) → i < n → TextLies ps text i (i + 1)
 
--- the first n rows lie among tags that lie in `ds`
-pub record Rows (rs es ds : List ℕ) (n : ℕ) : Type 0 where
-  pub lies : (i : ℕ) → i < n → RowLies rs es ds i
+-- the first n rows, of m cells each, lie in `ds`
+pub record Rows (ss ls ds : List ℕ) (m n : ℕ) : Type 0 where
+  pub lies : (i : ℕ) → i < n → RowLies ss ls ds m i
 
--- the rows from b up to e list at most n tags each
-pub record Narrow (rs : List ℕ) (n b e : ℕ) : Type 0 where
-  pub few : (i : ℕ) → b ≤ i → i < e → countAt rs i ≤ n
+-- the rows from b up to e, of m cells each, list at most n tags
+pub record Narrow (ls : List ℕ) (m n b e : ℕ) : Type 0 where
+  pub few : (i : ℕ) → b ≤ i → i < e → countAt ls m i ≤ n
 
--- the k characters from the i-th on with their tags and boundaries; before a word boundary all n columns
-unfoldable pub stretchOf : List ℕ → List ℕ → List ℕ → List ℕ → List ℕ → List ℕ → ℕ → ℕ → ℕ → List ℕ
-stretchOf text bs ps rs es ds n i zero = []
-stretchOf text bs ps rs es ds n i (suc k) =
-    charLine (if eqb (getD bs i 0) 1 then n else 0) text ps rs es ds i ++ (sign (markOf (getD bs i 0)) ∷ stretchOf text bs ps rs es ds n (i + 1) k)
+-- the k characters from the i-th on with their tags and boundaries, of rows that have m cells each; before a word boundary all n columns
+unfoldable pub stretchOf : List ℕ → List ℕ → List ℕ → List ℕ → List ℕ → List ℕ → ℕ → ℕ → ℕ → ℕ → List ℕ
+stretchOf text bs ps ss ls ds m n i zero = []
+stretchOf text bs ps ss ls ds m n i (suc k) =
+    charLine (if eqb (getD bs i 0) 1 then n else 0) text ps ss ls ds m i ++ (sign (markOf (getD bs i 0)) ∷ stretchOf text bs ps ss ls ds m n (i + 1) k)
 
 -- the k characters from the i-th on without a label
 unfoldable pub coveredOf : List ℕ → List ℕ → ℕ → ℕ → List ℕ
@@ -46,19 +46,19 @@ coveredOf text ps i zero = []
 coveredOf text ps i (suc k) = textAt ps text i (i + 1) ++ (32 ∷ coveredOf text ps (i + 1) k)
 
 -- the first k characters, the last of them before an unknown boundary
-unfoldable pub beforeOf : List ℕ → List ℕ → List ℕ → List ℕ → List ℕ → List ℕ → ℕ → ℕ → List ℕ
-beforeOf text bs ps rs es ds n zero = []
-beforeOf text bs ps rs es ds n (suc p) = stretchOf text bs ps rs es ds n 0 p ++ (charLine 0 text ps rs es ds p ++ (32 ∷ []))
+unfoldable pub beforeOf : List ℕ → List ℕ → List ℕ → List ℕ → List ℕ → List ℕ → ℕ → ℕ → ℕ → List ℕ
+beforeOf text bs ps ss ls ds m n zero = []
+beforeOf text bs ps ss ls ds m n (suc p) = stretchOf text bs ps ss ls ds m n 0 p ++ (charLine 0 text ps ss ls ds m p ++ (32 ∷ []))
 
 -- the characters from the i-th on to the last
-abbrev pub restOf : List ℕ → List ℕ → List ℕ → List ℕ → List ℕ → List ℕ → ℕ → ℕ → ℕ → List ℕ
-restOf text bs ps rs es ds n i last = stretchOf text bs ps rs es ds n i (last - i) ++ charLine n text ps rs es ds last
+abbrev pub restOf : List ℕ → List ℕ → List ℕ → List ℕ → List ℕ → List ℕ → ℕ → ℕ → ℕ → ℕ → List ℕ
+restOf text bs ps ss ls ds m n i last = stretchOf text bs ps ss ls ds m n i (last - i) ++ charLine n text ps ss ls ds m last
 
 -- the i-th character, its n columns absent
 abbrev pub bareOf : List ℕ → List ℕ → ℕ → ℕ → List ℕ
 bareOf text ps n i = textAt ps text i (i + 1) ++ replicate n 47
 
 -- the slashes of the k characters from the i-th on
-unfoldable pub slashesOf : List ℕ → List ℕ → ℕ → ℕ → ℕ → ℕ
-slashesOf bs rs n i zero = 0
-slashesOf bs rs n i (suc k) = (if eqb (getD bs i 0) 1 then n else countAt rs i) + slashesOf bs rs n (i + 1) k
+unfoldable pub slashesOf : List ℕ → List ℕ → ℕ → ℕ → ℕ → ℕ → ℕ
+slashesOf bs ls m n i zero = 0
+slashesOf bs ls m n i (suc k) = (if eqb (getD bs i 0) 1 then n else countAt ls m i) + slashesOf bs ls m n (i + 1) k

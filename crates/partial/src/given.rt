@@ -9,17 +9,16 @@ use pieces::given::row_count;
 use pieces::given::text_into;
 use pieces::given::text_len;
 use sheet::Record;
-ghost use Prim.Native.Nat.{_+_, _-_, _^_, _≤_, _<_};
+ghost use Prim.Native.Nat.{_+_, _-_, _*_, _^_, _≤_, _<_};
 ghost use mathlib.Core.Path.{_≡_};
 ghost use lib.Dec.{eqb};
-ghost use lib.ListN.{length, getD};
+ghost use lib.ListN.{length};
 ghost use Rattle.laws.specs.If.{if_then_else_};
 ghost use Rattle.sentence.specs.Reading.{partial};
 ghost use Rattle.sentence.specs.Writing.{sign, written};
 ghost use Rattle.sentence.specs.Withheld.{inRange, hidden, widest};
 ghost use Rattle.sheet.specs.Layout.{buffers, markOf, spell, Sheet};
-ghost use Rattle.lookups.specs.Answers.{edge};
-ghost use Rattle.pieces.specs.Pieces.{countAt, shortOf};
+ghost use Rattle.pieces.specs.Pieces.{countAt, Follow, shortOf};
 ghost use Rattle.escape.specs.Wrote.{Wrote, Lined};
 ghost use Rattle.partial.specs.Line.{shownOf, Spread, Rows, Narrow, stretchOf, coveredOf, beforeOf, restOf, bareOf, slashesOf, Asked};
 
@@ -57,14 +56,21 @@ fn is_hidden(start: usize, end: usize, i: usize) -> bool
 }
 
 // How many tags the i-th row shows: none where it is hidden.
-fn tags_shown(row_ends: &[u16], start: usize, end: usize, i: usize) -> usize
-    requires { ⌜ (i < length (now «row_ends»)) × (edge (now «row_ends») i ≤ getD (now «row_ends») i 0) ⌝ }
-    ensures { λ r. ⌜ r ≡ (if inRange start end i then 0 else countAt (now («row_ends» .entry)) i) ⌝ }
+fn tags_shown(
+    cell_starts: &[u16],
+    cell_lengths: &[u16],
+    stride: usize,
+    start: usize,
+    end: usize,
+    i: usize,
+) -> usize
+    requires { ⌜ Follow (now «cell_starts») (now «cell_lengths») (i * stride + stride) ⌝ }
+    ensures { λ r. ⌜ r ≡ (if inRange start end i then 0 else countAt (now («cell_lengths» .entry)) stride i) ⌝ }
 {
     if is_hidden(start, end, i) {
         return 0;
     }
-    row_count(row_ends, i)
+    row_count(cell_starts, cell_lengths, stride, i)
 }
 
 // How many columns have a present tag outside the range; where all of them do, no further row is looked at.
@@ -75,19 +81,19 @@ pub fn columns_shown(
     boundaries: &[u8],
     char_pos: &[u16],
     byte_pos: &[u16],
-    row_ends: &[u16],
-    tag_ends: &[u16],
+    cell_starts: &[u16],
+    cell_lengths: &[u16],
     tag_bytes: &[u8],
     start: usize,
     end: usize,
 ) -> usize
-    requires { ⌜ Sheet r (buffers (now text) (now types) (now boundaries) (now «char_pos») (now «byte_pos») (now «row_ends») (now «tag_ends») (now «tag_bytes»)) ⌝ }
-    ensures { λ a. ⌜ a ≡ widest (hidden start end 0 (spell r (buffers (now (text .entry)) (now (types .entry)) (now (boundaries .entry)) (now («char_pos» .entry)) (now («byte_pos» .entry)) (now («row_ends» .entry)) (now («tag_ends» .entry)) (now («tag_bytes» .entry))) .cells)) ⌝ }
+    requires { ⌜ Sheet r (buffers (now text) (now types) (now boundaries) (now «char_pos») (now «byte_pos») (now «cell_starts») (now «cell_lengths») (now «tag_bytes»)) ⌝ }
+    ensures { λ a. ⌜ a ≡ widest (hidden start end 0 (spell r (buffers (now (text .entry)) (now (types .entry)) (now (boundaries .entry)) (now («char_pos» .entry)) (now («byte_pos» .entry)) (now («cell_starts» .entry)) (now («cell_lengths» .entry)) (now («tag_bytes» .entry))) .cells)) ⌝ }
 {
     let mut columns = 0;
     let mut i = 0;
     while i < r.n && columns < r.columns {
-        let listed = tags_shown(row_ends, start, end, i);
+        let listed = tags_shown(cell_starts, cell_lengths, r.columns, start, end, i);
         if columns < listed {
             columns = listed;
             i += 1;
@@ -101,15 +107,16 @@ pub fn columns_shown(
 // How many slashes the characters from `from` up to `upto` have.
 fn count_slashes(
     boundaries: &[u8],
-    row_ends: &[u16],
-    tag_ends: &[u16],
+    cell_starts: &[u16],
+    cell_lengths: &[u16],
     tag_bytes: &[u8],
+    stride: usize,
     columns: usize,
     from: usize,
     upto: usize,
 ) -> usize
-    requires { ⌜ Rows (now «row_ends») (now «tag_ends») (now «tag_bytes») upto × (from ≤ upto) × (upto ≤ length (now boundaries)) × (slashesOf (now boundaries) (now «row_ends») columns from (upto - from) < 2 ^ 32) ⌝ }
-    ensures { λ a. ⌜ a ≡ slashesOf (now (boundaries .entry)) (now («row_ends» .entry)) columns from (upto - from) ⌝ }
+    requires { ⌜ Rows (now «cell_starts») (now «cell_lengths») (now «tag_bytes») stride upto × (from ≤ upto) × (upto ≤ length (now boundaries)) × (slashesOf (now boundaries) (now «cell_lengths») stride columns from (upto - from) < 2 ^ 32) ⌝ }
+    ensures { λ a. ⌜ a ≡ slashesOf (now (boundaries .entry)) (now («cell_lengths» .entry)) stride columns from (upto - from) ⌝ }
 {
     let mut sum = 0;
     let mut i = from;
@@ -118,7 +125,7 @@ fn count_slashes(
             sum += columns;
             i += 1;
         } else {
-            sum += row_count(row_ends, i);
+            sum += row_count(cell_starts, cell_lengths, stride, i);
             i += 1;
         }
     }
@@ -130,23 +137,33 @@ fn before_len(
     text: &[u8],
     boundaries: &[u8],
     char_pos: &[u16],
-    row_ends: &[u16],
-    tag_ends: &[u16],
+    cell_starts: &[u16],
+    cell_lengths: &[u16],
     tag_bytes: &[u8],
+    stride: usize,
     columns: usize,
     start: usize,
 ) -> usize
-    requires { ⌜ Spread (now «char_pos») (now text) start × Rows (now «row_ends») (now «tag_ends») (now «tag_bytes») start × Narrow (now «row_ends») columns 0 start × (start ≤ length (now boundaries) + 1) × (length (beforeOf (now text) (now boundaries) (now «char_pos») (now «row_ends») (now «tag_ends») (now «tag_bytes») columns start) < 2 ^ 32) ⌝ }
-    ensures { λ a. ⌜ a ≡ length (beforeOf (now (text .entry)) (now (boundaries .entry)) (now («char_pos» .entry)) (now («row_ends» .entry)) (now («tag_ends» .entry)) (now («tag_bytes» .entry)) columns start) ⌝ }
+    requires { ⌜ Spread (now «char_pos») (now text) start × Rows (now «cell_starts») (now «cell_lengths») (now «tag_bytes») stride start × Narrow (now «cell_lengths») stride columns 0 start × (start ≤ length (now boundaries) + 1) × (length (beforeOf (now text) (now boundaries) (now «char_pos») (now «cell_starts») (now «cell_lengths») (now «tag_bytes») stride columns start) < 2 ^ 32) ⌝ }
+    ensures { λ a. ⌜ a ≡ length (beforeOf (now (text .entry)) (now (boundaries .entry)) (now («char_pos» .entry)) (now («cell_starts» .entry)) (now («cell_lengths» .entry)) (now («tag_bytes» .entry)) stride columns start) ⌝ }
 {
     if start == 0 {
         return 0;
     }
     let last = start - 1;
     let bytes = text_len(char_pos, 0, start);
-    let slashes = count_slashes(boundaries, row_ends, tag_ends, tag_bytes, columns, 0, last);
-    let listed = row_count(row_ends, last);
-    let to = bytes_before(row_ends, tag_ends, start);
+    let slashes = count_slashes(
+        boundaries,
+        cell_starts,
+        cell_lengths,
+        tag_bytes,
+        stride,
+        columns,
+        0,
+        last,
+    );
+    let listed = row_count(cell_starts, cell_lengths, stride, last);
+    let to = bytes_before(cell_starts, cell_lengths, stride, start);
     let tags = escaped_len(true, tag_bytes, 0, to);
     bytes + start + slashes + listed + tags
 }
@@ -156,28 +173,30 @@ fn rest_len(
     text: &[u8],
     boundaries: &[u8],
     char_pos: &[u16],
-    row_ends: &[u16],
-    tag_ends: &[u16],
+    cell_starts: &[u16],
+    cell_lengths: &[u16],
     tag_bytes: &[u8],
+    stride: usize,
     columns: usize,
     from: usize,
     last: usize,
 ) -> usize
-    requires { ⌜ Spread (now «char_pos») (now text) (last + 1) × Rows (now «row_ends») (now «tag_ends») (now «tag_bytes») (last + 1) × Narrow (now «row_ends») columns from (last + 1) × (from ≤ last) × (last ≤ length (now boundaries)) × (length (restOf (now text) (now boundaries) (now «char_pos») (now «row_ends») (now «tag_ends») (now «tag_bytes») columns from last) < 2 ^ 32) ⌝ }
-    ensures { λ a. ⌜ a ≡ length (restOf (now (text .entry)) (now (boundaries .entry)) (now («char_pos» .entry)) (now («row_ends» .entry)) (now («tag_ends» .entry)) (now («tag_bytes» .entry)) columns from last) ⌝ }
+    requires { ⌜ Spread (now «char_pos») (now text) (last + 1) × Rows (now «cell_starts») (now «cell_lengths») (now «tag_bytes») stride (last + 1) × Narrow (now «cell_lengths») stride columns from (last + 1) × (from ≤ last) × (last ≤ length (now boundaries)) × (length (restOf (now text) (now boundaries) (now «char_pos») (now «cell_starts») (now «cell_lengths») (now «tag_bytes») stride columns from last) < 2 ^ 32) ⌝ }
+    ensures { λ a. ⌜ a ≡ length (restOf (now (text .entry)) (now (boundaries .entry)) (now («char_pos» .entry)) (now («cell_starts» .entry)) (now («cell_lengths» .entry)) (now («tag_bytes» .entry)) stride columns from last) ⌝ }
 {
     let bytes = text_len(char_pos, from, last + 1);
     let slashes = count_slashes(
         boundaries,
-        row_ends,
-        tag_ends,
+        cell_starts,
+        cell_lengths,
         tag_bytes,
+        stride,
         columns,
         from,
         last,
     );
-    let start = bytes_before(row_ends, tag_ends, from);
-    let to = bytes_before(row_ends, tag_ends, last + 1);
+    let start = bytes_before(cell_starts, cell_lengths, stride, from);
+    let to = bytes_before(cell_starts, cell_lengths, stride, last + 1);
     let tags = escaped_len(true, tag_bytes, start, to);
     bytes + (last - from) + slashes + columns + tags
 }
@@ -190,15 +209,15 @@ fn shown_len(
     boundaries: &[u8],
     char_pos: &[u16],
     byte_pos: &[u16],
-    row_ends: &[u16],
-    tag_ends: &[u16],
+    cell_starts: &[u16],
+    cell_lengths: &[u16],
     tag_bytes: &[u8],
     columns: usize,
     start: usize,
     end: usize,
 ) -> usize
-    requires { ⌜ Sheet r (buffers (now text) (now types) (now boundaries) (now «char_pos») (now «byte_pos») (now «row_ends») (now «tag_ends») (now «tag_bytes»)) × Asked r (buffers (now text) (now types) (now boundaries) (now «char_pos») (now «byte_pos») (now «row_ends») (now «tag_ends») (now «tag_bytes»)) columns start end ⌝ }
-    ensures { λ a. ⌜ a ≡ length (written partial (shownOf columns start end (spell r (buffers (now (text .entry)) (now (types .entry)) (now (boundaries .entry)) (now («char_pos» .entry)) (now («byte_pos» .entry)) (now («row_ends» .entry)) (now («tag_ends» .entry)) (now («tag_bytes» .entry)))))) ⌝ }
+    requires { ⌜ Sheet r (buffers (now text) (now types) (now boundaries) (now «char_pos») (now «byte_pos») (now «cell_starts») (now «cell_lengths») (now «tag_bytes»)) × Asked r (buffers (now text) (now types) (now boundaries) (now «char_pos») (now «byte_pos») (now «cell_starts») (now «cell_lengths») (now «tag_bytes»)) columns start end ⌝ }
+    ensures { λ a. ⌜ a ≡ length (written partial (shownOf columns start end (spell r (buffers (now (text .entry)) (now (types .entry)) (now (boundaries .entry)) (now («char_pos» .entry)) (now («byte_pos» .entry)) (now («cell_starts» .entry)) (now («cell_lengths» .entry)) (now («tag_bytes» .entry)))))) ⌝ }
 {
     let last = r.n - 1;
     if start == end {
@@ -206,9 +225,10 @@ fn shown_len(
             text,
             boundaries,
             char_pos,
-            row_ends,
-            tag_ends,
+            cell_starts,
+            cell_lengths,
             tag_bytes,
+            r.columns,
             columns,
             0,
             last,
@@ -218,9 +238,10 @@ fn shown_len(
         text,
         boundaries,
         char_pos,
-        row_ends,
-        tag_ends,
+        cell_starts,
+        cell_lengths,
         tag_bytes,
+        r.columns,
         columns,
         start,
     );
@@ -232,9 +253,10 @@ fn shown_len(
         text,
         boundaries,
         char_pos,
-        row_ends,
-        tag_ends,
+        cell_starts,
+        cell_lengths,
         tag_bytes,
+        r.columns,
         columns,
         end,
         last,
@@ -250,16 +272,16 @@ pub fn shown_short(
     boundaries: &[u8],
     char_pos: &[u16],
     byte_pos: &[u16],
-    row_ends: &[u16],
-    tag_ends: &[u16],
+    cell_starts: &[u16],
+    cell_lengths: &[u16],
     tag_bytes: &[u8],
     columns: usize,
     start: usize,
     end: usize,
     room: usize,
 ) -> usize
-    requires { ⌜ Sheet r (buffers (now text) (now types) (now boundaries) (now «char_pos») (now «byte_pos») (now «row_ends») (now «tag_ends») (now «tag_bytes»)) × Asked r (buffers (now text) (now types) (now boundaries) (now «char_pos») (now «byte_pos») (now «row_ends») (now «tag_ends») (now «tag_bytes»)) columns start end ⌝ }
-    ensures { λ a. ⌜ a ≡ shortOf room (length (written partial (shownOf columns start end (spell r (buffers (now (text .entry)) (now (types .entry)) (now (boundaries .entry)) (now («char_pos» .entry)) (now («byte_pos» .entry)) (now («row_ends» .entry)) (now («tag_ends» .entry)) (now («tag_bytes» .entry))))))) ⌝ }
+    requires { ⌜ Sheet r (buffers (now text) (now types) (now boundaries) (now «char_pos») (now «byte_pos») (now «cell_starts») (now «cell_lengths») (now «tag_bytes»)) × Asked r (buffers (now text) (now types) (now boundaries) (now «char_pos») (now «byte_pos») (now «cell_starts») (now «cell_lengths») (now «tag_bytes»)) columns start end ⌝ }
+    ensures { λ a. ⌜ a ≡ shortOf room (length (written partial (shownOf columns start end (spell r (buffers (now (text .entry)) (now (types .entry)) (now (boundaries .entry)) (now («char_pos» .entry)) (now («byte_pos» .entry)) (now («cell_starts» .entry)) (now («cell_lengths» .entry)) (now («tag_bytes» .entry))))))) ⌝ }
 {
     if most(r) <= room {
         return 0;
@@ -271,8 +293,8 @@ pub fn shown_short(
         boundaries,
         char_pos,
         byte_pos,
-        row_ends,
-        tag_ends,
+        cell_starts,
+        cell_lengths,
         tag_bytes,
         columns,
         start,
@@ -289,17 +311,18 @@ fn stretch_into(
     text: &[u8],
     boundaries: &[u8],
     char_pos: &[u16],
-    row_ends: &[u16],
-    tag_ends: &[u16],
+    cell_starts: &[u16],
+    cell_lengths: &[u16],
     tag_bytes: &[u8],
+    stride: usize,
     columns: usize,
     from: usize,
     upto: usize,
     out: &mut [u8],
     at: usize,
 ) -> usize
-    requires { ⌜ Spread (now «char_pos») (now text) upto × Rows (now «row_ends») (now «tag_ends») (now «tag_bytes») upto × (from ≤ upto) × (upto ≤ length (now boundaries)) × (at + length (stretchOf (now text) (now boundaries) (now «char_pos») (now «row_ends») (now «tag_ends») (now «tag_bytes») columns from (upto - from)) ≤ length (now out)) ⌝ }
-    ensures { λ a. ⌜ Wrote (now (out .entry)) at (stretchOf (now (text .entry)) (now (boundaries .entry)) (now («char_pos» .entry)) (now («row_ends» .entry)) (now («tag_ends» .entry)) (now («tag_bytes» .entry)) columns from (upto - from)) (now (out .exit)) a ⌝ }
+    requires { ⌜ Spread (now «char_pos») (now text) upto × Rows (now «cell_starts») (now «cell_lengths») (now «tag_bytes») stride upto × (from ≤ upto) × (upto ≤ length (now boundaries)) × (at + length (stretchOf (now text) (now boundaries) (now «char_pos») (now «cell_starts») (now «cell_lengths») (now «tag_bytes») stride columns from (upto - from)) ≤ length (now out)) ⌝ }
+    ensures { λ a. ⌜ Wrote (now (out .entry)) at (stretchOf (now (text .entry)) (now (boundaries .entry)) (now («char_pos» .entry)) (now («cell_starts» .entry)) (now («cell_lengths» .entry)) (now («tag_bytes» .entry)) stride columns from (upto - from)) (now (out .exit)) a ⌝ }
 {
     let mut n = at;
     let mut i = from;
@@ -309,9 +332,10 @@ fn stretch_into(
         n = char_into(
             text,
             char_pos,
-            row_ends,
-            tag_ends,
+            cell_starts,
+            cell_lengths,
             tag_bytes,
+            stride,
             i,
             width,
             out,
@@ -329,15 +353,16 @@ fn before_into(
     text: &[u8],
     boundaries: &[u8],
     char_pos: &[u16],
-    row_ends: &[u16],
-    tag_ends: &[u16],
+    cell_starts: &[u16],
+    cell_lengths: &[u16],
     tag_bytes: &[u8],
+    stride: usize,
     columns: usize,
     start: usize,
     out: &mut [u8],
 ) -> usize
-    requires { ⌜ Spread (now «char_pos») (now text) start × Rows (now «row_ends») (now «tag_ends») (now «tag_bytes») start × (start ≤ length (now boundaries) + 1) × (length (beforeOf (now text) (now boundaries) (now «char_pos») (now «row_ends») (now «tag_ends») (now «tag_bytes») columns start) ≤ length (now out)) ⌝ }
-    ensures { λ a. ⌜ Wrote (now (out .entry)) 0 (beforeOf (now (text .entry)) (now (boundaries .entry)) (now («char_pos» .entry)) (now («row_ends» .entry)) (now («tag_ends» .entry)) (now («tag_bytes» .entry)) columns start) (now (out .exit)) a ⌝ }
+    requires { ⌜ Spread (now «char_pos») (now text) start × Rows (now «cell_starts») (now «cell_lengths») (now «tag_bytes») stride start × (start ≤ length (now boundaries) + 1) × (length (beforeOf (now text) (now boundaries) (now «char_pos») (now «cell_starts») (now «cell_lengths») (now «tag_bytes») stride columns start) ≤ length (now out)) ⌝ }
+    ensures { λ a. ⌜ Wrote (now (out .entry)) 0 (beforeOf (now (text .entry)) (now (boundaries .entry)) (now («char_pos» .entry)) (now («cell_starts» .entry)) (now («cell_lengths» .entry)) (now («tag_bytes» .entry)) stride columns start) (now (out .exit)) a ⌝ }
 {
     if start == 0 {
         return 0;
@@ -347,9 +372,10 @@ fn before_into(
         text,
         boundaries,
         char_pos,
-        row_ends,
-        tag_ends,
+        cell_starts,
+        cell_lengths,
         tag_bytes,
+        stride,
         columns,
         0,
         last,
@@ -359,9 +385,10 @@ fn before_into(
     let k = char_apart(
         text,
         char_pos,
-        row_ends,
-        tag_ends,
+        cell_starts,
+        cell_lengths,
         tag_bytes,
+        stride,
         last,
         0,
         out,
@@ -415,25 +442,27 @@ fn rest_into(
     text: &[u8],
     boundaries: &[u8],
     char_pos: &[u16],
-    row_ends: &[u16],
-    tag_ends: &[u16],
+    cell_starts: &[u16],
+    cell_lengths: &[u16],
     tag_bytes: &[u8],
+    stride: usize,
     columns: usize,
     from: usize,
     last: usize,
     out: &mut [u8],
     at: usize,
 ) -> usize
-    requires { ⌜ Spread (now «char_pos») (now text) (last + 1) × Rows (now «row_ends») (now «tag_ends») (now «tag_bytes») (last + 1) × (from ≤ last) × (last ≤ length (now boundaries)) × (at + length (restOf (now text) (now boundaries) (now «char_pos») (now «row_ends») (now «tag_ends») (now «tag_bytes») columns from last) ≤ length (now out)) ⌝ }
-    ensures { λ a. ⌜ Wrote (now (out .entry)) at (restOf (now (text .entry)) (now (boundaries .entry)) (now («char_pos» .entry)) (now («row_ends» .entry)) (now («tag_ends» .entry)) (now («tag_bytes» .entry)) columns from last) (now (out .exit)) a ⌝ }
+    requires { ⌜ Spread (now «char_pos») (now text) (last + 1) × Rows (now «cell_starts») (now «cell_lengths») (now «tag_bytes») stride (last + 1) × (from ≤ last) × (last ≤ length (now boundaries)) × (at + length (restOf (now text) (now boundaries) (now «char_pos») (now «cell_starts») (now «cell_lengths») (now «tag_bytes») stride columns from last) ≤ length (now out)) ⌝ }
+    ensures { λ a. ⌜ Wrote (now (out .entry)) at (restOf (now (text .entry)) (now (boundaries .entry)) (now («char_pos» .entry)) (now («cell_starts» .entry)) (now («cell_lengths» .entry)) (now («tag_bytes» .entry)) stride columns from last) (now (out .exit)) a ⌝ }
 {
     let n = stretch_into(
         text,
         boundaries,
         char_pos,
-        row_ends,
-        tag_ends,
+        cell_starts,
+        cell_lengths,
         tag_bytes,
+        stride,
         columns,
         from,
         last,
@@ -443,9 +472,10 @@ fn rest_into(
     char_apart(
         text,
         char_pos,
-        row_ends,
-        tag_ends,
+        cell_starts,
+        cell_lengths,
         tag_bytes,
+        stride,
         last,
         columns,
         out,
@@ -461,16 +491,16 @@ pub fn shown_into(
     boundaries: &[u8],
     char_pos: &[u16],
     byte_pos: &[u16],
-    row_ends: &[u16],
-    tag_ends: &[u16],
+    cell_starts: &[u16],
+    cell_lengths: &[u16],
     tag_bytes: &[u8],
     columns: usize,
     start: usize,
     end: usize,
     out: &mut [u8],
 ) -> usize
-    requires { ⌜ Sheet r (buffers (now text) (now types) (now boundaries) (now «char_pos») (now «byte_pos») (now «row_ends») (now «tag_ends») (now «tag_bytes»)) × (start ≤ end) × (end ≤ r .n) × (length (written partial (shownOf columns start end (spell r (buffers (now text) (now types) (now boundaries) (now «char_pos») (now «byte_pos») (now «row_ends») (now «tag_ends») (now «tag_bytes»))))) ≤ length (now out)) ⌝ }
-    ensures { λ a. ⌜ Lined (written partial (shownOf columns start end (spell r (buffers (now (text .entry)) (now (types .entry)) (now (boundaries .entry)) (now («char_pos» .entry)) (now («byte_pos» .entry)) (now («row_ends» .entry)) (now («tag_ends» .entry)) (now («tag_bytes» .entry)))))) (now (out .entry)) (now (out .exit)) a ⌝ }
+    requires { ⌜ Sheet r (buffers (now text) (now types) (now boundaries) (now «char_pos») (now «byte_pos») (now «cell_starts») (now «cell_lengths») (now «tag_bytes»)) × (start ≤ end) × (end ≤ r .n) × (length (written partial (shownOf columns start end (spell r (buffers (now text) (now types) (now boundaries) (now «char_pos») (now «byte_pos») (now «cell_starts») (now «cell_lengths») (now «tag_bytes»))))) ≤ length (now out)) ⌝ }
+    ensures { λ a. ⌜ Lined (written partial (shownOf columns start end (spell r (buffers (now (text .entry)) (now (types .entry)) (now (boundaries .entry)) (now («char_pos» .entry)) (now («byte_pos» .entry)) (now («cell_starts» .entry)) (now («cell_lengths» .entry)) (now («tag_bytes» .entry)))))) (now (out .entry)) (now (out .exit)) a ⌝ }
 {
     let last = r.n - 1;
     if start == end {
@@ -478,9 +508,10 @@ pub fn shown_into(
             text,
             boundaries,
             char_pos,
-            row_ends,
-            tag_ends,
+            cell_starts,
+            cell_lengths,
             tag_bytes,
+            r.columns,
             columns,
             0,
             last,
@@ -492,9 +523,10 @@ pub fn shown_into(
         text,
         boundaries,
         char_pos,
-        row_ends,
-        tag_ends,
+        cell_starts,
+        cell_lengths,
         tag_bytes,
+        r.columns,
         columns,
         start,
         out,
@@ -508,9 +540,10 @@ pub fn shown_into(
         text,
         boundaries,
         char_pos,
-        row_ends,
-        tag_ends,
+        cell_starts,
+        cell_lengths,
         tag_bytes,
+        r.columns,
         columns,
         end,
         last,
@@ -527,13 +560,13 @@ pub fn partial_short(
     boundaries: &[u8],
     char_pos: &[u16],
     byte_pos: &[u16],
-    row_ends: &[u16],
-    tag_ends: &[u16],
+    cell_starts: &[u16],
+    cell_lengths: &[u16],
     tag_bytes: &[u8],
     room: usize,
 ) -> usize
-    requires { ⌜ Sheet r (buffers (now text) (now types) (now boundaries) (now «char_pos») (now «byte_pos») (now «row_ends») (now «tag_ends») (now «tag_bytes»)) ⌝ }
-    ensures { λ a. ⌜ a ≡ shortOf room (length (written partial (spell r (buffers (now (text .entry)) (now (types .entry)) (now (boundaries .entry)) (now («char_pos» .entry)) (now («byte_pos» .entry)) (now («row_ends» .entry)) (now («tag_ends» .entry)) (now («tag_bytes» .entry)))))) ⌝ }
+    requires { ⌜ Sheet r (buffers (now text) (now types) (now boundaries) (now «char_pos») (now «byte_pos») (now «cell_starts») (now «cell_lengths») (now «tag_bytes»)) ⌝ }
+    ensures { λ a. ⌜ a ≡ shortOf room (length (written partial (spell r (buffers (now (text .entry)) (now (types .entry)) (now (boundaries .entry)) (now («char_pos» .entry)) (now («byte_pos» .entry)) (now («cell_starts» .entry)) (now («cell_lengths» .entry)) (now («tag_bytes» .entry)))))) ⌝ }
 {
     shown_short(
         r,
@@ -542,8 +575,8 @@ pub fn partial_short(
         boundaries,
         char_pos,
         byte_pos,
-        row_ends,
-        tag_ends,
+        cell_starts,
+        cell_lengths,
         tag_bytes,
         r.columns,
         0,
@@ -560,13 +593,13 @@ pub fn partial_into(
     boundaries: &[u8],
     char_pos: &[u16],
     byte_pos: &[u16],
-    row_ends: &[u16],
-    tag_ends: &[u16],
+    cell_starts: &[u16],
+    cell_lengths: &[u16],
     tag_bytes: &[u8],
     out: &mut [u8],
 ) -> usize
-    requires { ⌜ Sheet r (buffers (now text) (now types) (now boundaries) (now «char_pos») (now «byte_pos») (now «row_ends») (now «tag_ends») (now «tag_bytes»)) × (length (written partial (spell r (buffers (now text) (now types) (now boundaries) (now «char_pos») (now «byte_pos») (now «row_ends») (now «tag_ends») (now «tag_bytes»)))) ≤ length (now out)) ⌝ }
-    ensures { λ a. ⌜ Lined (written partial (spell r (buffers (now (text .entry)) (now (types .entry)) (now (boundaries .entry)) (now («char_pos» .entry)) (now («byte_pos» .entry)) (now («row_ends» .entry)) (now («tag_ends» .entry)) (now («tag_bytes» .entry))))) (now (out .entry)) (now (out .exit)) a ⌝ }
+    requires { ⌜ Sheet r (buffers (now text) (now types) (now boundaries) (now «char_pos») (now «byte_pos») (now «cell_starts») (now «cell_lengths») (now «tag_bytes»)) × (length (written partial (spell r (buffers (now text) (now types) (now boundaries) (now «char_pos») (now «byte_pos») (now «cell_starts») (now «cell_lengths») (now «tag_bytes»)))) ≤ length (now out)) ⌝ }
+    ensures { λ a. ⌜ Lined (written partial (spell r (buffers (now (text .entry)) (now (types .entry)) (now (boundaries .entry)) (now («char_pos» .entry)) (now («byte_pos» .entry)) (now («cell_starts» .entry)) (now («cell_lengths» .entry)) (now («tag_bytes» .entry))))) (now (out .entry)) (now (out .exit)) a ⌝ }
 {
     shown_into(
         r,
@@ -575,8 +608,8 @@ pub fn partial_into(
         boundaries,
         char_pos,
         byte_pos,
-        row_ends,
-        tag_ends,
+        cell_starts,
+        cell_lengths,
         tag_bytes,
         r.columns,
         0,

@@ -2,14 +2,15 @@
 use Prim.Native.Nat.{ℕ, zero, suc, _+_, _-_, _≤_, _<_}
 use native.Mathlib.Omega.{arith}
 use mathlib.Core.Path.{_≡_, refl, sym, ap, _∙_}
-use mathlib.Core.Bool.{Bool, true, false, not, _&&_, and-assoc, and-true, and-false}
+use mathlib.Core.Bool.{Bool, true, false, not, _&&_, false≢true, and-assoc, and-true, and-false, and-eq-true-iff}
 use mathlib.Core.List.{List, [], _∷_, _++_}
 use borrow.Author.Tests.{eq-eqb, eqb-true, ne-eqb, eqb-false, le-leb, lt-leb, not-true, not-false}
-use lib.Dec.{eqb, leb, ltb, eqb·zero-suc, eqb·suc-zero}
+use lib.Dec.{eqb, leb, eqb·zero-suc, eqb·suc-zero}
 use lib.ListN.{length, take, drop, getD, length-take, length-drop, replicate}
 use lib.Seq.{drop-drop}
 use Rattle.laws.specs.If.{if_then_else_}
 use Rattle.laws.specs.Put.{drop-step, drop-none}
+use Rattle.laws.proofs.Facts.{reads, untrue}
 use Rattle.utf8.specs.declared.Decoded.{Decoded}
 use Rattle.utf8.specs.declared.Decoded.the-variants.{Char, Bad, End}
 use Rattle.utf8.specs.Utf8.{encode, decodeAt, walk, wholes, values, scalars, validPrefix, width}
@@ -17,7 +18,7 @@ use Rattle.utf8.proofs.Codec.{one-decoded, encode-decode, width-small, length-e
 use Rattle.utf8.proofs.Laws.{decode-in, chars-char, chars-bad, chars-end}
 use Rattle.types.specs.TypeOf.{typeOf}
 use Rattle.sentence.specs.Sentence.{types, starts, numbers}
-use Rattle.parts.specs.Parts.{same, zeros, noNul, isPlain, isChar, CharFits, isText, Places, areMarks, chain, isTag, present, isRow}
+use Rattle.parts.specs.Parts.{same, zeros, noNul, isPlain, isChar, CharFits, isText, Places, areMarks, isCell, areCells}
 
 -- ---- a test of the whole that is one of what is left
 pub record Left (whole rest : Bool) : Type 0 where
@@ -40,14 +41,6 @@ pub left-is : (w x y : Bool) → Left w x → x ≡ y → y ≡ w
 left-is w x y l e = sym (l .is ∙ e)
 
 -- ---- lists
-pub zeros-step : (d : List ℕ) (i : ℕ) → i < length d → zeros (drop i d) ≡ (eqb (getD d i 0) 0 && zeros (drop (i + 1) d))
-unfolding zeros
-zeros-step d i h = rw (drop-step i d h)
-
-pub zeros-done : (d : List ℕ) (i : ℕ) → length d ≤ i → zeros (drop i d) ≡ true
-unfolding zeros
-zeros-done d i h = rw (drop-none i d h)
-
 zeros-take : (m : ℕ) (d : List ℕ) (i : ℕ) → i < length d → zeros (take (suc m) (drop i d)) ≡ (eqb (getD d i 0) 0 && zeros (take m (drop (i + 1) d)))
 unfolding zeros
 zeros-take m d i h = rw (drop-step i d h)
@@ -108,73 +101,63 @@ pub marks-done : (d : List ℕ) (i : ℕ) → length d ≤ i → areMarks (drop 
 unfolding areMarks
 marks-done d i h = rw (drop-none i d h)
 
--- ---- parts that end one after another
-pub record Chained (test : ℕ → ℕ → Bool) (last : ℕ) (es : List ℕ) (g i : ℕ) : Type 0 where
-  pub is : chain test last 0 es ≡ chain test last g (drop i es)
+-- ---- cells, one after another
+module _ (s : List ℕ) (g b l : ℕ) where
+  pub cell-elsewhere : (b ≡ g → ⊥) → false ≡ isCell s g b l
+  unfolding isCell
+  cell-elsewhere h = rw (ne-eqb b g h)
 
-module _ (test : ℕ → ℕ → Bool) (last : ℕ) (es : List ℕ) (g i : ℕ) (h : Chained test last es g i) where
-  chain-step : i < length es → chain test last 0 es ≡ (test g (getD es i 0) && chain test last (getD es i 0) (drop (i + 1) es))
-  unfolding chain
-  chain-step l = h .is ∙ rw (drop-step i es l)
+  pub cell-none : b ≡ g → l ≡ 0 → g ≤ length s → true ≡ isCell s g b l
+  unfolding isCell isPlain walk wholes values noNul
+  cell-none h e k = rw (eq-eqb b g h, e, le-leb (g + 0) (length s) (omega arith))
 
-  pub chain-go : (ok : Bool) → i < length es → ok ≡ test g (getD es i 0) → not ok ≡ false → Chained test last es (getD es i 0) (i + 1)
-  chain-go ok l e t = record { is = chain-step l ∙ rw (← e, not-false ok t) }
+  pub cell-past : b ≡ g → length s < g + l → false ≡ isCell s g b l
+  unfolding isCell
+  cell-past h k = rw (eq-eqb b g h, lt-leb (g + l) (length s) k)
 
-  pub chain-no : (ok : Bool) → i < length es → ok ≡ test g (getD es i 0) → not ok ≡ true → false ≡ chain test last 0 es
-  chain-no ok l e t = sym (chain-step l ∙ rw (← e, not-true ok t))
+  pub cell-plain : (r : Bool) → b ≡ g → g + l ≤ length s → r ≡ isPlain (take (g + l - g) (drop g s)) → r ≡ isCell s g b l
+  unfolding isCell
+  cell-plain r h k p = let e : g + l - g ≡ l = omega arith in rw (eq-eqb b g h, le-leb (g + l) (length s) k) (rw e at p)
 
-  pub chain-done : length es ≤ i → eqb g last ≡ chain test last 0 es
-  unfolding chain
-  chain-done l = sym (h .is ∙ rw (drop-none i es l))
+  cell-within : isCell s g b l ≡ true → g + l ≤ length s
+  unfolding isCell
+  cell-within = simp reads (omega arith)
 
--- ---- one tag and one row
-module _ (s : List ℕ) (g e : ℕ) where
-  pub tag-falls : e < g → false ≡ isTag s g e
-  unfolding isTag
-  tag-falls h = rw (lt-leb g e h)
+-- i cells are passed, which take g bytes
+pub record Celled (s bs ls : List ℕ) (g i : ℕ) : Type 0 where
+  pub is : areCells s 0 bs ls ≡ areCells s g (drop i bs) (drop i ls)
+  pub same-long : length bs ≡ length ls
+  pub inside : g ≤ length s
 
-  pub tag-past : g ≤ e → length s < e → false ≡ isTag s g e
-  unfolding isTag
-  tag-past h l = rw (le-leb g e h, lt-leb e (length s) l)
+pub cells-start : (s bs ls : List ℕ) → length bs ≡ length ls → Celled s bs ls 0 0
+cells-start s bs ls e = record { is = refl; same-long = e; inside = omega arith }
 
-  pub tag-plain : (r : Bool) → g ≤ e → e ≤ length s → r ≡ isPlain (take (e - g) (drop g s)) → r ≡ isTag s g e
-  unfolding isTag
-  tag-plain r h l p = rw (p, le-leb g e h, le-leb e (length s) l)
+cells-long : (s : List ℕ) (g : ℕ) (bs ls : List ℕ) → areCells s g bs ls ≡ true → length bs ≡ length ls
+unfolding areCells
+cells-long s g [] [] e = refl
+cells-long s g [] (l ∷ ls) e = absurd (false≢true e)
+cells-long s g (b ∷ bs) [] e = absurd (false≢true e)
+cells-long s g (b ∷ bs) (l ∷ ls) e = omega (arith, cells-long s (g + l) bs ls (and-eq-true-iff (isCell s g b l) (areCells s (g + l) bs ls) .0 e .1))
 
-pub end-before : (es : List ℕ) (j : ℕ) → (j ≡ 0 → ⊥) → getD es (j - 1) 0 ≡ getD (0 ∷ es) j 0
-end-before es zero h = absurd (h refl)
-end-before es (suc j) h = let q : suc j - 1 ≡ j = omega arith in rw q
+pub cells-uneven : (s bs ls : List ℕ) → (length bs ≡ length ls → ⊥) → false ≡ areCells s 0 bs ls
+cells-uneven s bs ls h = sym (untrue (areCells s 0 bs ls) (λ e. h (cells-long s 0 bs ls e)))
 
-module _ (n : ℕ) (ts : List ℕ) (k e : ℕ) where
-  pub row-falls : e < k → false ≡ isRow n ts k e
-  unfolding isRow
-  row-falls h = rw (lt-leb k e h)
+module _ (s bs ls : List ℕ) (g i : ℕ) (h : Celled s bs ls g i) where
+  cells-step : i < length ls → areCells s 0 bs ls ≡ (isCell s g (getD bs i 0) (getD ls i 0) && areCells s (g + getD ls i 0) (drop (i + 1) bs) (drop (i + 1) ls))
+  unfolding areCells
+  cells-step k = h .is ∙ rw (drop-step i bs (omega (arith, h .same-long)), drop-step i ls k)
 
-  pub row-past : k ≤ e → length ts < e → false ≡ isRow n ts k e
-  unfolding isRow
-  row-past h l = rw (le-leb k e h, lt-leb e (length ts) l)
+  pub cells-go : (ok : Bool) → i < length ls → ok ≡ isCell s g (getD bs i 0) (getD ls i 0) → not ok ≡ false → Celled s bs ls (g + getD ls i 0) (i + 1)
+  cells-go ok k e t =
+      let o : isCell s g (getD bs i 0) (getD ls i 0) ≡ true = sym e ∙ not-false ok t in
+      record { is = cells-step k ∙ rw o; same-long = h .same-long; inside = cell-within s g (getD bs i 0) (getD ls i 0) o }
 
-  pub row-long : k ≤ e → e ≤ length ts → n < e - k → false ≡ isRow n ts k e
-  unfolding isRow
-  row-long h l m = rw (le-leb k e h, le-leb e (length ts) l, lt-leb (e - k) n m)
+  pub cells-no : (ok : Bool) → i < length ls → ok ≡ isCell s g (getD bs i 0) (getD ls i 0) → not ok ≡ true → false ≡ areCells s 0 bs ls
+  cells-no ok k e t = sym (cells-step k ∙ rw (← e, not-true ok t))
 
-  pub row-none : k ≤ e → e ≤ length ts → e - k ≤ n → e ≡ k → true ≡ isRow n ts k e
-  unfolding isRow
-  row-none h l m q = rw (le-leb k e h, le-leb e (length ts) l, le-leb (e - k) n m, eq-eqb e k q)
-
-  pub row-some : (a b : ℕ) → k ≤ e → e ≤ length ts → e - k ≤ n → (e ≡ k → ⊥) → a ≡ getD (0 ∷ ts) (e - 1) 0 → b ≡ getD (0 ∷ ts) e 0 → ltb a b ≡ isRow n ts k e
-  unfolding isRow present
-  row-some a b h l m q i j = rw (i, j, le-leb k e h, le-leb e (length ts) l, le-leb (e - k) n m, ne-eqb e k q)
-
--- where no tag is listed, every row ends at 0
-rows-none : (n : ℕ) (ts es : List ℕ) → length ts ≡ 0 → zeros es ≡ chain (isRow n ts) (length ts) 0 es
-unfolding zeros chain
-rows-none n ts [] h = sym (eq-eqb 0 (length ts) (sym h))
-rows-none n ts (zero ∷ es) h = rw (← (row-none n ts 0 0 (omega arith) (omega arith) (omega arith) refl)) (rows-none n ts es h)
-rows-none n ts (suc e ∷ es) h = rw (eqb·suc-zero e, ← (row-past n ts 0 (suc e) (omega arith) (omega arith)))
-
-pub no-rows : (n : ℕ) (ts es : List ℕ) (r : Bool) → length ts ≡ 0 → r ≡ zeros es → r ≡ chain (isRow n ts) (length ts) 0 es
-no-rows n ts es r h e = e ∙ rows-none n ts es h
+  pub cells-done : length ls ≤ i → eqb g (length s) ≡ areCells s 0 bs ls
+  unfolding areCells
+  cells-done k = sym (h .is ∙ rw (drop-none i bs (omega (arith, h .same-long)), drop-none i ls k))
 
 -- ---- characters
 and-swap : (a b c : Bool) → (a && (b && c)) ≡ (b && (a && c))

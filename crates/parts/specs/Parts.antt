@@ -1,9 +1,9 @@
--- The tests of a sheet's parts, each of lists that are the whole of what a record counts: the text with its types and positions, the boundaries, the tags, the rows.
+-- The tests of a sheet's parts, each of lists that are the whole of what a record counts: the text with its types and positions, the boundaries, the cells.
 use Prim.Native.Nat.{ℕ, _+_, _-_, _≤_, _<_}
 use mathlib.Core.Path.{_≡_}
-use mathlib.Core.Bool.{Bool, true, false, not, _&&_, _||_}
+use mathlib.Core.Bool.{Bool, true, false, not, _&&_}
 use mathlib.Core.List.{List, [], _∷_}
-use lib.Dec.{eqb, leb, ltb}
+use lib.Dec.{eqb, leb}
 use lib.ListN.{length, take, drop, getD}
 use Rattle.utf8.specs.Utf8.{scalars, validPrefix}
 use Rattle.sentence.specs.Sentence.{types, charPositions, bytePositions}
@@ -64,27 +64,13 @@ unfoldable pub areMarks : List ℕ → Bool
 areMarks [] = true
 areMarks (m ∷ ms) = leb m 2 && areMarks ms
 
--- parts that end at es, the first from g on: each passes a test, and the last ends at a place told
-unfoldable pub chain : (ℕ → ℕ → Bool) → ℕ → ℕ → List ℕ → Bool
-chain test last g [] = eqb g last
-chain test last g (e ∷ es) = test g e && chain test last e es
+-- a cell of l bytes that is told to start at b, where g tag bytes come before it: it does, and its bytes are UTF-8 without NUL
+unfoldable pub isCell : List ℕ → ℕ → ℕ → ℕ → Bool
+isCell s g b l = eqb b g && leb (g + l) (length s) && isPlain (take l (drop g s))
 
--- the bytes from g to e are a tag: UTF-8 without NUL
-unfoldable pub isTag : List ℕ → ℕ → ℕ → Bool
-isTag s g e = leb g e && leb e (length s) && isPlain (take (e - g) (drop g s))
-
--- the tags from byte g on end at es, and the last with the bytes
-abbrev pub areTags : List ℕ → ℕ → List ℕ → Bool
-areTags s g es = chain (isTag s) (length s) g es
-
--- the last of e tags, by their ends, has bytes
-unfoldable pub present : List ℕ → ℕ → Bool
-present ts e = ltb (getD (0 ∷ ts) (e - 1) 0) (getD (0 ∷ ts) e 0)
-
--- the tags from k to e are a row of at most n, which is empty or ends in a present tag
-unfoldable pub isRow : ℕ → List ℕ → ℕ → ℕ → Bool
-isRow n ts k e = leb k e && leb e (length ts) && leb (e - k) n && (eqb e k || present ts e)
-
--- the rows from tag k on end at es, and the last with the tags
-abbrev pub areRows : ℕ → List ℕ → ℕ → List ℕ → Bool
-areRows n ts k es = chain (isRow n ts) (length ts) k es
+-- the cells from byte g on have these starts and lengths, and the last ends with the bytes
+unfoldable pub areCells : List ℕ → ℕ → List ℕ → List ℕ → Bool
+areCells s g [] [] = eqb g (length s)
+areCells s g [] (l ∷ ls) = false
+areCells s g (b ∷ bs) [] = false
+areCells s g (b ∷ bs) (l ∷ ls) = isCell s g b l && areCells s (g + l) bs ls

@@ -2,24 +2,10 @@
 use types::blocks::Tables;
 use types::given::get_type;
 use utf8::Decoded;
-ghost use Prim.Native.Nat.{_+_, _-_, _≤_};
+ghost use Prim.Native.Nat.{_+_, _-_, _≤_, _<_};
 ghost use mathlib.Core.Path.{_≡_};
-ghost use mathlib.Core.List.{_∷_};
-ghost use lib.ListN.{length, take, drop, getD};
-ghost use Rattle.parts.specs.Parts.{zeros, isPlain, isChar, CharFits, isText, Places, areMarks, isTag, areTags, isRow, areRows};
-
-// Nothing but 0: the ends of the rows where no tag is listed.
-fn all_zero(d: &[u16]) -> bool
-    ensures { λ ok. ⌜ ok ≡ zeros (now (d .entry)) ⌝ }
-{
-    let mut ok = true;
-    let mut i = 0;
-    while i < d.len() {
-        ok = ok & (d[i] == 0);
-        i += 1;
-    }
-    ok
-}
+ghost use lib.ListN.{length, take, drop};
+ghost use Rattle.parts.specs.Parts.{zeros, isPlain, isChar, CharFits, isText, Places, areMarks, isCell, areCells};
 
 // Nothing but 0 at the inner bytes of a character.
 fn inner_zero(d: &[u16], at: usize, len: usize) -> bool
@@ -155,79 +141,40 @@ fn is_plain(s: &[u8]) -> bool
     true
 }
 
-// The tag from one byte up to another.
-fn is_tag(bytes: &[u8], from: usize, to: usize) -> bool
-    ensures { λ ok. ⌜ ok ≡ isTag (now (bytes .entry)) from to ⌝ }
+// A cell behind `from` tag bytes, by the start and the length that are told of it.
+fn is_cell(bytes: &[u8], from: usize, start: usize, len: usize) -> bool
+    requires { ⌜ (from ≤ length (now bytes)) × (len < 65536) ⌝ }
+    ensures { λ ok. ⌜ ok ≡ isCell (now (bytes .entry)) from start len ⌝ }
 {
-    if to < from {
+    if start != from {
         return false;
     }
+    if len == 0 {
+        return true;
+    }
+    let to = from + len;
     if to > bytes.len() {
         return false;
     }
     is_plain(&bytes[from..to])
 }
 
-// The tags, by where they end.
-pub fn are_tags(bytes: &[u8], ends: &[u16]) -> bool
-    ensures { λ ok. ⌜ ok ≡ areTags (now (bytes .entry)) 0 (now (ends .entry)) ⌝ }
+// The cells, by their starts and lengths.
+pub fn are_cells(bytes: &[u8], starts: &[u16], lengths: &[u16]) -> bool
+    ensures { λ ok. ⌜ ok ≡ areCells (now (bytes .entry)) 0 (now (starts .entry)) (now (lengths .entry)) ⌝ }
 {
+    if starts.len() != lengths.len() {
+        return false;
+    }
     let mut from = 0;
     let mut i = 0;
-    while i < ends.len() {
-        let to = ends[i] as usize;
-        if !is_tag(bytes, from, to) {
+    while i < lengths.len() {
+        let len = lengths[i] as usize;
+        if !is_cell(bytes, from, starts[i] as usize, len) {
             return false;
         }
-        from = to;
+        from += len;
         i += 1;
     }
     from == bytes.len()
-}
-
-// Where the first `count` tags end.
-fn end_of(ends: &[u16], count: usize) -> u16
-    requires { ⌜ count ≤ length (now ends) ⌝ }
-    ensures { λ r. ⌜ r ≡ getD (0 ∷ now (ends .entry)) count 0 ⌝ }
-{
-    if count == 0 { 0 } else { ends[count - 1] }
-}
-
-// The row from one tag up to another.
-fn is_row(columns: usize, ends: &[u16], from: usize, to: usize) -> bool
-    ensures { λ ok. ⌜ ok ≡ isRow columns (now (ends .entry)) from to ⌝ }
-{
-    if to < from {
-        return false;
-    }
-    if to > ends.len() {
-        return false;
-    }
-    if to - from > columns {
-        return false;
-    }
-    if to == from {
-        return true;
-    }
-    end_of(ends, to - 1) < end_of(ends, to)
-}
-
-// The rows, by where they end.
-pub fn are_rows(columns: usize, tag_ends: &[u16], row_ends: &[u16]) -> bool
-    ensures { λ ok. ⌜ ok ≡ areRows columns (now («tag_ends» .entry)) 0 (now («row_ends» .entry)) ⌝ }
-{
-    if tag_ends.len() == 0 {
-        return all_zero(row_ends);
-    }
-    let mut from = 0;
-    let mut i = 0;
-    while i < row_ends.len() {
-        let to = row_ends[i] as usize;
-        if !is_row(columns, tag_ends, from, to) {
-            return false;
-        }
-        from = to;
-        i += 1;
-    }
-    from == tag_ends.len()
 }

@@ -13,7 +13,7 @@ use Rattle.sentence.specs.Sentence.{Sentence}
 use Rattle.sentence.specs.Reading.{Form, Result, sentence, refused, read}
 use Rattle.sentence.specs.Writing.{written}
 use Rattle.sentence.specs.Refusals.{refusal, verdict, hostOrder}
-use Rattle.passage.specs.Between.{Outcome, writes, refuses, between, answerOf, outputOf, Converts}
+use Rattle.passage.specs.Between.{Outcome, writes, refuses, overfull, between, answerOf, outputOf, Converts}
 use Rattle.passage.specs.declared.Converted.{Converted}
 use Rattle.passage.specs.declared.Converted.the-variants.{Wrote, Refused}
 
@@ -32,12 +32,13 @@ module _ (room : ℕ) where
   unfolding between hostOrder verdict
   between-fits unknown outside f g x = on (read f x)
     where
-      on : (r : Result) → Fits (hostOrder refuses unknown outside (λ (s : Sentence). ltb room (length (written g s))) (λ (s : Sentence). length (written g s)) (λ (s : Sentence). writes (written g s)) r)
+      on : (r : Result) → Fits (hostOrder refuses unknown outside overfull (λ (s : Sentence). ltb room (length (written g s))) (λ (s : Sentence). length (written g s)) (λ (s : Sentence). writes (written g s)) r)
       on (refused n p) = if-cases Fits unknown _ _ (λ _. tt) (λ _. if-cases Fits outside _ _ (λ _. tt) (λ _. if-cases Fits true _ _ (λ _. tt) (λ _. tt)))
       on (sentence s) =
           if-cases Fits unknown _ _ (λ _. tt)
           (λ _. if-cases Fits outside _ _ (λ _. tt)
-          (λ _. if-cases Fits (ltb room (length (written g s))) _ _ (λ _. tt) (λ e. ltb-false _ _ e)))
+          (λ _. if-cases Fits (overfull s) _ _ (λ _. tt)
+          (λ _. if-cases Fits (ltb room (length (written g s))) _ _ (λ _. tt) (λ e. ltb-false _ _ e))))
 
 -- what an answer says of the outcome
 pub was-written : (o : Outcome) (at : ℕ) {e : ℕ} → Wrote e ≡ answerOf at o → (w : List ℕ) × (o ≡ writes w) × (e ≡ at + length w)

@@ -1,5 +1,5 @@
 -- A line passed from one form to another: what comes of it, what is answered, and the output after it.
-use Prim.Native.Nat.{ℕ, zero, suc, _+_}
+use Prim.Native.Nat.{ℕ, zero, suc, _+_, _*_}
 use mathlib.Core.Path.{_≡_}
 use mathlib.Core.Bool.{Bool}
 use mathlib.Core.List.{List, _++_}
@@ -7,7 +7,7 @@ use lib.Dec.{ltb}
 use lib.ListN.{length, take, drop}
 use Rattle.laws.specs.Put.{over}
 use Rattle.sentence.specs.declared.Refusal.{Refusal}
-use Rattle.sentence.specs.Sentence.{Sentence}
+use Rattle.sentence.specs.Sentence.{Sentence, count}
 use Rattle.sentence.specs.Reading.{Form, raw, tokenized, partial, read}
 use Rattle.sentence.specs.Writing.{written}
 use Rattle.sentence.specs.Refusals.{hostOrder}
@@ -25,10 +25,14 @@ pub data Outcome : Type 0 where
   writes : List ℕ → Outcome
   refuses : Refusal → Outcome
 
--- a line by two forms into so much room: 16, 14, what the reader refuses, 12 at the written line's length
+-- the conversion holds 2,048 cells
+unfoldable pub overfull : Sentence → Bool
+overfull s = ltb 2048 (count s * s .columns)
+
+-- a line by two forms into so much room: 16, 14, what the reader refuses, 11, 12 at the written line's length
 unfoldable pub between : Bool → Bool → Form → Form → ℕ → List ℕ → Outcome
 between unknown outside f g room x =
-    hostOrder refuses unknown outside
+    hostOrder refuses unknown outside overfull
     (λ (s : Sentence). ltb room (length (written g s)))
     (λ (s : Sentence). length (written g s))
     (λ (s : Sentence). writes (written g s))

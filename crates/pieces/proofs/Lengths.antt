@@ -1,5 +1,5 @@
 -- How long tags, characters and tokens are as they are written. Assumes nothing.
-use Prim.Native.Nat.{ℕ, zero, suc, _+_, _-_, _^_, _≤_, _<_}
+use Prim.Native.Nat.{ℕ, zero, suc, _+_, _-_, _*_, _^_, _≤_, _<_}
 use mathlib.Core.Path.{_≡_, refl, ap, _∙_}
 use mathlib.Core.List.{List, _++_}
 use mir.Val.{Fits}
@@ -12,9 +12,9 @@ use Rattle.sentence.specs.Reading.{Form, tokenized, partial}
 use Rattle.sentence.specs.Writing.{escape, writeTags}
 use Rattle.sentence.proofs.Trips.{escape-append}
 use Rattle.sheet.proofs.Look.{part-left}
-use Rattle.lookups.specs.Answers.{edge}
 use Rattle.pieces.specs.Pieces.{pieceAt, piecesAt, rowAt, countAt, bytesTo, rowLine, Lie, RowLies, TextLies, textAt, charLine, tokenLine}
-use Rattle.pieces.proofs.Tags.{edge-next, row-split}
+use Rattle.pieces.proofs.Cells.{fewer-lie, bytes-next, bytes-rise, used-few, used-bytes}
+use Rattle.pieces.proofs.Tags.{row-split}
 
 -- a part from a up to c is one up to b and one from there
 pub join : (d : List ℕ) (a b c : ℕ) → a ≤ b → b ≤ c → c ≤ length d → drop a (take b d) ++ drop b (take c d) ≡ drop a (take c d)
@@ -31,86 +31,77 @@ text-long ps text i t =
     let y = getD ps (i + 1) 0 in
     ap length (part-left text x y) ∙ length-take-le (y - x) (drop x text) (omega (arith, length-drop x text, t .within))
 
--- n tags from the k-th on take a slash each, and their bytes as one part
-record Flat (f : Form) (es d : List ℕ) (k n : ℕ) : Type 0 where
-  rises : edge es k ≤ edge es (k + n)
-  within : edge es (k + n) ≤ length d
-  bytes : length (writeTags f (piecesAt es d k n)) ≡ n + length (escape f (drop (edge es k) (take (edge es (k + n)) d)))
+-- the tags of n cells from the k-th on take a slash each, and their bytes as one part
+record Flat (f : Form) (ss ls d : List ℕ) (k n : ℕ) : Type 0 where
+  within : bytesTo ss ls (k + n) ≤ length d
+  bytes : length (writeTags f (piecesAt ss ls d k n)) ≡ n + length (escape f (drop (bytesTo ss ls k) (take (bytesTo ss ls (k + n)) d)))
 
-pieces-flat : (f : Form) (es d : List ℕ) (k n : ℕ) → Lie es (k + n) (length d) → edge es k ≤ length d → Flat f es d k n
+first : (ss ls d : List ℕ) (k e : ℕ) → k ≤ e → Lie ss ls e (length d) → bytesTo ss ls k ≤ length d
+first ss ls d zero e u l = omega arith
+first ss ls d (suc k) e u l = l .within k u
+
+pieces-flat : (f : Form) (ss ls d : List ℕ) (k n : ℕ) → Lie ss ls (k + n) (length d) → Flat f ss ls d k n
 unfolding piecesAt writeTags pieceAt escape
-pieces-flat f es d k zero h l = record { rises = rw add-zero (omega arith); within = rw add-zero l; bytes = rw (add-zero, slice-empty (edge es k) d) }
-pieces-flat f es d k (suc n) h l =
+pieces-flat f ss ls d k zero h = record { within = first ss ls d (k + 0) (k + 0) (omega arith) h; bytes = rw (add-zero, slice-empty (bytesTo ss ls k) d) }
+pieces-flat f ss ls d k (suc n) h =
     let e : k + 1 + n ≡ k + suc n = omega arith in
-    let m = edge-next es k in
-    let up : edge es k ≤ edge es (k + 1) = rw m (h .rises k (omega arith)) in
-    let i = pieces-flat f es d (k + 1) n (rw e h) (rw m (h .within k (omega arith))) in
-    let r = rw e at (i .rises) in
+    let m = bytes-next ss ls k in
+    let s = h .cells .follows k (omega arith) in
+    let i = pieces-flat f ss ls d (k + 1) n (rw e h) in
+    let up : bytesTo ss ls k ≤ bytesTo ss ls (k + 1) = omega arith in
+    let r = rw e at (bytes-rise ss ls (k + 1) n (rw e (h .cells))) in
     let w = rw e at (i .within) in
-    let x = escape f (drop (edge es k) (take (edge es (k + 1)) d)) in
+    let x = escape f (drop (bytesTo ss ls k) (take (bytesTo ss ls (k + 1)) d)) in
     record {
-      rises = omega arith;
       within = w;
-      bytes = rw (← m, ← (join d (edge es k) (edge es (k + 1)) (edge es (k + suc n)) up r w), escape-append f _ _, length-append x _, length-append x _)
+      bytes = rw (← m, s, ← (join d (bytesTo ss ls k) (bytesTo ss ls (k + 1)) (bytesTo ss ls (k + suc n)) up r w), escape-append f _ _, length-append x _, length-append x _)
           (omega (arith, rw e at (i .bytes)));
     }
 
-first : (es d : List ℕ) (k e : ℕ) → k ≤ e → Lie es e (length d) → edge es k ≤ length d
-first es d zero e u l = omega arith
-first es d (suc k) e u l = l .within k u
-
--- ---- a row that lists the tags from k up to e, whose bytes are those from x up to y
-module _ (rs es d : List ℕ) (i k e x y : ℕ) (a : k ≡ edge rs i) (b : e ≡ getD rs i 0) (p : x ≡ edge es k) (q : y ≡ edge es e) (h : RowLies rs es d i) where
-  flat : (f : Form) → Flat f es d k (e - k)
-  flat f =
-      let up : k ≤ e = omega (arith, h .rises) in
-      let m : k + (e - k) ≡ e = omega arith in
-      let lies : Lie es e (length d) = rw b (h .tags) in
-      pieces-flat f es d k (e - k) (rw m lies) (first es d k e up lies)
-
+-- ---- a row of m cells, whose bytes are those from x up to y
+module _ (ss ls d : List ℕ) (m i : ℕ) {x y : ℕ} (p : x ≡ bytesTo ss ls (i * m)) (q : y ≡ bytesTo ss ls (i * m + m)) (h : RowLies ss ls d m i) where
   pub row-bytes : (x ≤ y) × (y ≤ length d)
-  row-bytes =
-      let g = flat tokenized in
-      let m : k + (e - k) ≡ e = omega (arith, h .rises) in
-      (rw (p, q, ← m) (g .rises), rw (q, ← m) (g .within))
+  row-bytes = (omega (arith, bytes-rise ss ls (i * m) m (h .cells)), omega (arith, first ss ls d (i * m + m) (i * m + m) (omega arith) h))
 
   -- it takes a slash for each tag, those bytes, and a slash for each column behind the last tag
-  pub row-sum : (f : Form) (n : ℕ) → length (rowLine f n (rowAt rs es d i)) ≡ (e - k) + (n - (e - k)) + length (escape f (drop x (take y d)))
+  pub row-sum : (f : Form) (n : ℕ) → length (rowLine f n (rowAt ss ls d m i)) ≡ countAt ls m i + (n - countAt ls m i) + length (escape f (drop x (take y d)))
   row-sum f n =
-      let g = flat f in
-      let m : k + (e - k) ≡ e = omega (arith, h .rises) in
-      let v = writeTags f (piecesAt es d k (e - k)) in
-      let z = replicate {A = ℕ} (n - (e - k)) 47 in
-      rw (row-split f n rs es d i k e a b, length-append v z, length-replicate {A = ℕ} (n - (e - k)) 47, p, q)
-      (omega (arith, rw m at (g .bytes), h .rises))
+      let c = countAt ls m i in
+      let e : i * m + c - i * m ≡ c = omega arith in
+      let g = pieces-flat f ss ls d (i * m) c (fewer-lie (i * m + c) (omega (arith, used-few ls (i * m) m)) h) in
+      let v = writeTags f (piecesAt ss ls d (i * m) c) in
+      let z = replicate {A = ℕ} (n - c) 47 in
+      rw (rw e at (row-split f n ss ls d m i refl), length-append v z, length-replicate {A = ℕ} (n - c) 47, p, q)
+      (omega (arith, rw (used-bytes ls (i * m) ss m (h .cells)) at (g .bytes)))
 
-  -- so, with no more tags than columns, a slash for each column, and those bytes
-  pub row-long : {t : ℕ} (n : ℕ) → t ≡ length (escape tokenized (drop x (take y d))) → getD rs i 0 ≤ edge rs i + n → n + t ≡ length (rowLine tokenized n (rowAt rs es d i))
-  row-long n u w = omega (arith, row-sum tokenized n, u, a, b)
+-- so, where all its cells are written, a slash for each, and those bytes
+module _ (ss ls d : List ℕ) (m i : ℕ) {x y t : ℕ} (p : x ≡ bytesTo ss ls (i * m)) (q : y ≡ bytesTo ss ls (i * m + m)) (h : RowLies ss ls d m i)
+    (u : t ≡ length (escape tokenized (drop x (take y d)))) where
+  pub row-long : m + t ≡ length (rowLine tokenized m (rowAt ss ls d m i))
+  row-long = omega (arith, row-sum ss ls d m i p q h tokenized m, u, used-few ls (i * m) m)
 
-  pub row-room : {t : ℕ} (n : ℕ) → t ≡ length (escape tokenized (drop x (take y d))) → getD rs i 0 ≤ edge rs i + n → length (rowLine tokenized n (rowAt rs es d i)) < 2 ^ 32 → Fits w64 (n + t)
-  row-room n u w l = omega (arith, row-long n u w)
+  pub row-room : length (rowLine tokenized m (rowAt ss ls d m i)) < 2 ^ 32 → Fits w64 (m + t)
+  row-room l = omega (arith, row-long)
 
 -- a character takes its text, and its row
-pub char-sum : (n : ℕ) (text ps rs es d : List ℕ) (i : ℕ) → TextLies ps text i (i + 1) → RowLies rs es d i
-    → length (charLine n text ps rs es d i)
-    ≡ getD ps (i + 1) 0 - getD ps i 0 + (countAt rs i + (n - countAt rs i)) + length (escape partial (drop (bytesTo rs es i) (take (bytesTo rs es (i + 1)) d)))
-char-sum n text ps rs es d i t h =
-    let k = edge rs i in
-    let m : edge rs (i + 1) ≡ getD rs i 0 = edge-next rs i in
-    let s = row-sum rs es d i k (getD rs i 0) (edge es k) (edge es (getD rs i 0)) refl refl refl refl h partial n in
-    rw m (omega (arith, s, text-long ps text i t, length-append (textAt ps text i (i + 1)) (rowLine partial n (rowAt rs es d i))))
+pub char-sum : (n : ℕ) (text ps ss ls d : List ℕ) (m i : ℕ) → TextLies ps text i (i + 1) → RowLies ss ls d m i
+    → length (charLine n text ps ss ls d m i)
+    ≡ getD ps (i + 1) 0 - getD ps i 0 + (countAt ls m i + (n - countAt ls m i)) + length (escape partial (drop (bytesTo ss ls (i * m)) (take (bytesTo ss ls ((i + 1) * m)) d)))
+char-sum n text ps ss ls d m i t h =
+    let e : (i + 1) * m ≡ i * m + m = omega arith in
+    let s = row-sum ss ls d m i refl refl h partial n in
+    rw e (omega (arith, s, text-long ps text i t, length-append (textAt ps text i (i + 1)) (rowLine partial n (rowAt ss ls d m i))))
 
 -- a token takes its text, escaped, and the row of its last character
-pub token-long : (n : ℕ) (text ps rs es d : List ℕ) (b e x y : ℕ) {t u : ℕ} → x ≡ getD ps b 0 → y ≡ getD ps e 0
-    → t ≡ length (escape tokenized (drop x (take y text))) → u ≡ length (rowLine tokenized n (rowAt rs es d (e - 1)))
-    → t + u ≡ length (tokenLine n text ps rs es d b e)
-token-long n text ps rs es d b e x y p q t u = rw (length-append, ← p, ← q) (omega arith)
+pub token-long : (n : ℕ) (text ps ss ls d : List ℕ) (b e x y : ℕ) {t u : ℕ} → x ≡ getD ps b 0 → y ≡ getD ps e 0
+    → t ≡ length (escape tokenized (drop x (take y text))) → u ≡ length (rowLine tokenized n (rowAt ss ls d n (e - 1)))
+    → t + u ≡ length (tokenLine n text ps ss ls d b e)
+token-long n text ps ss ls d b e x y p q t u = rw (length-append, ← p, ← q) (omega arith)
 
-pub token-room : (n : ℕ) (text ps rs es d : List ℕ) (b e x y : ℕ) {t u : ℕ} → x ≡ getD ps b 0 → y ≡ getD ps e 0
-    → t ≡ length (escape tokenized (drop x (take y text))) → u ≡ length (rowLine tokenized n (rowAt rs es d (e - 1)))
-    → length (tokenLine n text ps rs es d b e) < 2 ^ 32 → Fits w64 (t + u)
-token-room n text ps rs es d b e x y p q t u h = omega (arith, token-long n text ps rs es d b e x y p q t u)
+pub token-room : (n : ℕ) (text ps ss ls d : List ℕ) (b e x y : ℕ) {t u : ℕ} → x ≡ getD ps b 0 → y ≡ getD ps e 0
+    → t ≡ length (escape tokenized (drop x (take y text))) → u ≡ length (rowLine tokenized n (rowAt ss ls d n (e - 1)))
+    → length (tokenLine n text ps ss ls d b e) < 2 ^ 32 → Fits w64 (t + u)
+token-room n text ps ss ls d b e x y p q t u h = omega (arith, token-long n text ps ss ls d b e x y p q t u)
 
-pub token-row : (n : ℕ) (text ps rs es d : List ℕ) (b e : ℕ) → length (tokenLine n text ps rs es d b e) < 2 ^ 32 → length (rowLine tokenized n (rowAt rs es d (e - 1))) < 2 ^ 32
-token-row n text ps rs es d b e h = omega (arith, length-append (escape tokenized (textAt ps text b e)) (rowLine tokenized n (rowAt rs es d (e - 1))))
+pub token-row : (n : ℕ) (text ps ss ls d : List ℕ) (b e : ℕ) → length (tokenLine n text ps ss ls d b e) < 2 ^ 32 → length (rowLine tokenized n (rowAt ss ls d n (e - 1))) < 2 ^ 32
+token-row n text ps ss ls d b e h = omega (arith, length-append (escape tokenized (textAt ps text b e)) (rowLine tokenized n (rowAt ss ls d n (e - 1))))

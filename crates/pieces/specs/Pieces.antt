@@ -1,51 +1,61 @@
--- Parts of a buffer that are told by their ends: the tags of tag bytes, and the rows of tags.
+-- Parts of a buffer that are told by where they start and how long they are: the tags of tag bytes, and the rows of tags.
 use Prim.Native.Nat.{ℕ, zero, suc, _+_, _-_, _*_, _≤_, _<_}
+use mathlib.Core.Path.{_≡_}
 use mathlib.Core.List.{List, [], _∷_, _++_}
-use lib.Dec.{ltb}
+use lib.Dec.{eqb, ltb}
 use lib.ListN.{length, take, drop, getD}
 use Rattle.laws.specs.If.{if_then_else_}
 use Rattle.sentence.specs.Sentence.{Tag, pad}
 use Rattle.sentence.specs.Reading.{Form, tokenized, partial}
 use Rattle.sentence.specs.Writing.{escape, writeTags}
 use Rattle.sheet.specs.declared.Record.{Record}
-use Rattle.lookups.specs.Answers.{edge}
 
--- the k-th part of d
-unfoldable pub pieceAt : List ℕ → List ℕ → ℕ → Tag
-pieceAt es d k = drop (edge es k) (take (getD es k 0) d)
+-- the tag of the k-th cell, as bytes
+unfoldable pub pieceAt : List ℕ → List ℕ → List ℕ → ℕ → Tag
+pieceAt ss ls d k = drop (getD ss k 0) (take (getD ss k 0 + getD ls k 0) d)
 
--- n parts of d, from the k-th on
-unfoldable pub piecesAt : List ℕ → List ℕ → ℕ → ℕ → List Tag
-piecesAt es d k zero = []
-piecesAt es d k (suc n) = pieceAt es d k ∷ piecesAt es d (k + 1) n
+-- the tags of n cells, from the k-th on
+unfoldable pub piecesAt : List ℕ → List ℕ → List ℕ → ℕ → ℕ → List Tag
+piecesAt ss ls d k zero = []
+piecesAt ss ls d k (suc n) = pieceAt ss ls d k ∷ piecesAt ss ls d (k + 1) n
 
--- the tags of the i-th row, as bytes
-unfoldable pub rowAt : List ℕ → List ℕ → List ℕ → ℕ → List Tag
-rowAt rs es d i = piecesAt es d (edge rs i) (getD rs i 0 - edge rs i)
+-- how many of the n cells from the k-th on there are up to the last one that has a length
+unfoldable pub usedAt : List ℕ → ℕ → ℕ → ℕ
+usedAt ls k zero = 0
+usedAt ls k (suc n) = if eqb (getD ls (k + n) 0) 0 then usedAt ls k n else suc n
 
--- how many tags the i-th row lists
-abbrev pub countAt : List ℕ → ℕ → ℕ
-countAt rs i = getD rs i 0 - edge rs i
+-- how many tags the i-th row lists, of rows that have m cells each
+abbrev pub countAt : List ℕ → ℕ → ℕ → ℕ
+countAt ls m i = usedAt ls (i * m) m
 
--- how many tag bytes stand before the i-th row
+-- the tags that the i-th row lists, as bytes
+unfoldable pub rowAt : List ℕ → List ℕ → List ℕ → ℕ → ℕ → List Tag
+rowAt ss ls d m i = piecesAt ss ls d (i * m) (countAt ls m i)
+
+-- how many tag bytes stand before the k-th cell: it starts where the one before it ends
 abbrev pub bytesTo : List ℕ → List ℕ → ℕ → ℕ
-bytesTo rs es i = edge es (edge rs i)
+bytesTo ss ls zero = 0
+bytesTo ss ls (suc k) = getD ss k 0 + getD ls k 0
 
 -- what is written of a row: its tags, and absent ones up to n columns
 abbrev pub rowLine : Form → ℕ → List Tag → List ℕ
 rowLine f n r = writeTags f (pad n r)
 
--- the first n ends do not fall, and none is past `top`
-pub record Lie (es : List ℕ) (n top : ℕ) : Type 0 where
-  pub long : n ≤ length es
-  pub rises : (k : ℕ) → k < n → edge es k ≤ getD es k 0
-  pub within : (k : ℕ) → k < n → getD es k 0 ≤ top
+-- the first n cells are no more than a sheet has, and each starts where the one before it ends
+pub record Follow (ss ls : List ℕ) (n : ℕ) : Type 0 where
+  pub few : n ≤ 16777216
+  pub starts : n ≤ length ss
+  pub lengths : n ≤ length ls
+  pub follows : (k : ℕ) → k < n → getD ss k 0 ≡ bytesTo ss ls k
 
--- the i-th row lies among tags that lie in d
-pub record RowLies (rs es d : List ℕ) (i : ℕ) : Type 0 where
-  pub inside : i < length rs
-  pub rises : edge rs i ≤ getD rs i 0
-  pub tags : Lie es (getD rs i 0) (length d)
+-- and none ends past `top`
+pub record Lie (ss ls : List ℕ) (n top : ℕ) : Type 0 where
+  pub cells : Follow ss ls n
+  pub within : (k : ℕ) → k < n → getD ss k 0 + getD ls k 0 ≤ top
+
+-- the i-th row lies in d, and the rows before it
+abbrev pub RowLies : List ℕ → List ℕ → List ℕ → ℕ → ℕ → Type 0
+RowLies ss ls d m i = Lie ss ls (i * m + m) (length d)
 
 -- the characters from b up to e lie in the text
 pub record TextLies (ps text : List ℕ) (b e : ℕ) : Type 0 where
@@ -58,13 +68,13 @@ pub record TextLies (ps text : List ℕ) (b e : ℕ) : Type 0 where
 abbrev pub textAt : List ℕ → List ℕ → ℕ → ℕ → List ℕ
 textAt ps text b e = drop (getD ps b 0) (take (getD ps e 0) text)
 
--- the i-th character as the partial form writes it, with the n columns asked for
-abbrev pub charLine : ℕ → List ℕ → List ℕ → List ℕ → List ℕ → List ℕ → ℕ → List ℕ
-charLine n text ps rs es d i = textAt ps text i (i + 1) ++ rowLine partial n (rowAt rs es d i)
+-- the i-th character as the partial form writes it, with the n columns asked for, of rows that have m cells each
+abbrev pub charLine : ℕ → List ℕ → List ℕ → List ℕ → List ℕ → List ℕ → ℕ → ℕ → List ℕ
+charLine n text ps ss ls d m i = textAt ps text i (i + 1) ++ rowLine partial n (rowAt ss ls d m i)
 
 -- the characters from b up to e as a token of n columns
 abbrev pub tokenLine : ℕ → List ℕ → List ℕ → List ℕ → List ℕ → List ℕ → ℕ → ℕ → List ℕ
-tokenLine n text ps rs es d b e = escape tokenized (textAt ps text b e) ++ rowLine tokenized n (rowAt rs es d (e - 1))
+tokenLine n text ps ss ls d b e = escape tokenized (textAt ps text b e) ++ rowLine tokenized n (rowAt ss ls d n (e - 1))
 
 -- ---- room for a line
 -- no line of a sheet is longer: every byte escaped, all columns of every character, and a sign or a space behind it

@@ -13,7 +13,7 @@ use Rattle.sheet.specs.Layout.{Buffers, recordOf, laid, Holds}
 use Rattle.sheet.specs.declared.Answer.{Answer}
 use Rattle.sheet.specs.declared.Answer.the-variants as answer
 use Rattle.sheet.specs.declared.Record.{Record}
-use Rattle.changes.specs.Changes.{defaultAnswer, DefaultSet}
+use Rattle.changes.specs.Changes.{defaultAnswer}
 use Rattle.changes.proofs.After.{default-holds}
 use Rattle.load.specs.Load.{lacks, readAnswer}
 use Rattle.load.proofs.Ways.{same-is, order-sentence, order-refused}
@@ -47,8 +47,8 @@ module _ (f : Form) (x : List ℕ) (d e : Buffers) (a : Answer) (h : lacks d bla
         boundaries-is = rw z;
         char-pos-is = rw z;
         byte-pos-is = rw z;
-        row-ends-is = rw z;
-        tag-ends-is = rw z;
+        cell-starts-is = rw z;
+        cell-lengths-is = rw z;
         tag-bytes-is = rw z;
       })
       refl

@@ -19,11 +19,11 @@ use Rattle.load.proofs.Ways.{same-self, same-is, roomOf, lacking, order-sentenc
 use Rattle.read.specs.Read.{updateAnswer, updateLeaves, UpdateDoes}
 
 -- ---- an update
-blank-record : record { n = 1; b = 1; columns = 0; k = 0; g = 0 } ≡ recordOf blank
+blank-record : record { n = 1; b = 1; columns = 0; cells = 0; g = 0 } ≡ recordOf blank
 unfolding blank recordOf textOf rowsOf size width listed tagBytes rowBytes if_then_else_
 blank-record = refl
 
-module _ (x : Result) (d : Buffers) (ok : Bool) (h : ok ≡ roomOf (record { n = 1; b = 1; columns = 0; k = 0; g = 0 }) d) where
+module _ (x : Result) (d : Buffers) (ok : Bool) (h : ok ≡ roomOf (record { n = 1; b = 1; columns = 0; cells = 0; g = 0 }) d) where
   pub update-lacks : not ok ≡ true → UpdateDoes x d (answer.Refused (refusal 15 0)) d
   unfolding updateAnswer updateLeaves updateOrder verdict if_then_else_
   update-lacks t =
@@ -39,7 +39,7 @@ module _ (x : Result) (d : Buffers) (ok : Bool) (h : ok ≡ roomOf (record { n =
   unfolding updateLeaves if_then_else_
   update-leaves t = rw (lacking blank d ok _ blank-record h false t)
 
-pub update-done : (x : Result) (d e : Buffers) (ok : Bool) (a : Answer) (r : Record) → ok ≡ roomOf (record { n = 1; b = 1; columns = 0; k = 0; g = 0 }) d → not ok ≡ false
+pub update-done : (x : Result) (d e : Buffers) (ok : Bool) (a : Answer) (r : Record) → ok ≡ roomOf (record { n = 1; b = 1; columns = 0; cells = 0; g = 0 }) d → not ok ≡ false
     → ReadDoes x d a e → a ≡ answer.Sentence r → UpdateDoes x d (answer.Sentence r) e
 update-done x d e ok a r h t w i =
     let j : readAnswer x d ≡ answer.Sentence r = sym (w .answer-is) ∙ i in
@@ -49,7 +49,7 @@ update-done x d e ok a r h t w i =
     }
 
 -- the one-blank sentence where the buffers have its room
-default-same : (d e : Buffers) (ok : Bool) (b : Answer) → ok ≡ roomOf (record { n = 1; b = 1; columns = 0; k = 0; g = 0 }) d → not ok ≡ false → DefaultSet d b e → Same (laid blank d) e
+default-same : (d e : Buffers) (ok : Bool) (b : Answer) → ok ≡ roomOf (record { n = 1; b = 1; columns = 0; cells = 0; g = 0 }) d → not ok ≡ false → DefaultSet d b e → Same (laid blank d) e
 unfolding defaultAnswer verdict lacks if_then_else_
 default-same d e ok b h t w =
     let i : b ≡ answer.Sentence (recordOf blank) = w .answer-is ∙ rw (lacking blank d ok _ blank-record h false t) in
@@ -59,12 +59,12 @@ default-same d e ok b h t w =
       boundaries-is = rw i at (w .boundaries-is);
       char-pos-is = rw i at (w .char-pos-is);
       byte-pos-is = rw i at (w .byte-pos-is);
-      row-ends-is = rw i at (w .row-ends-is);
-      tag-ends-is = rw i at (w .tag-ends-is);
+      cell-starts-is = rw i at (w .cell-starts-is);
+      cell-lengths-is = rw i at (w .cell-lengths-is);
       tag-bytes-is = rw i at (w .tag-bytes-is);
     }
 
-pub update-refused : (x : Result) (d e f : Buffers) (ok : Bool) (a b : Answer) (q : Refusal) → ok ≡ roomOf (record { n = 1; b = 1; columns = 0; k = 0; g = 0 }) d → not ok ≡ false
+pub update-refused : (x : Result) (d e f : Buffers) (ok : Bool) (a b : Answer) (q : Refusal) → ok ≡ roomOf (record { n = 1; b = 1; columns = 0; cells = 0; g = 0 }) d → not ok ≡ false
     → ReadDoes x d a e → a ≡ answer.Refused q → DefaultSet e b f → UpdateDoes x d (answer.Refused q) f
 unfolding readLeaves
 update-refused x d e f ok a b q h t w i v =

@@ -92,13 +92,13 @@ fn cell(
     boundaries: &[u8],
     char_pos: &[u16],
     byte_pos: &[u16],
-    row_ends: &[u16],
-    tag_ends: &[u16],
+    cell_starts: &[u16],
+    cell_lengths: &[u16],
     tag_bytes: &[u8],
     i: usize,
     j: usize,
 ) -> Part
-    requires { ⌜ Sheet r (buffers (now text) (now types) (now boundaries) (now «char_pos») (now «byte_pos») (now «row_ends») (now «tag_ends») (now «tag_bytes»)) × (i < r .n) ⌝ }
+    requires { ⌜ Sheet r (buffers (now text) (now types) (now boundaries) (now «char_pos») (now «byte_pos») (now «cell_starts») (now «cell_lengths») (now «tag_bytes»)) × (i < r .n) × (j < r .columns) ⌝ }
 {
     if is_long(r) {
         return lookups::given::tag(
@@ -108,8 +108,8 @@ fn cell(
             boundaries,
             char_pos,
             byte_pos,
-            row_ends,
-            tag_ends,
+            cell_starts,
+            cell_lengths,
             tag_bytes,
             i,
             j,
@@ -122,8 +122,8 @@ fn cell(
         boundaries,
         char_pos,
         byte_pos,
-        row_ends,
-        tag_ends,
+        cell_starts,
+        cell_lengths,
         tag_bytes,
         i,
         j,
@@ -138,12 +138,12 @@ fn step(
     boundaries: &[u8],
     char_pos: &[u16],
     byte_pos: &[u16],
-    row_ends: &[u16],
-    tag_ends: &[u16],
+    cell_starts: &[u16],
+    cell_lengths: &[u16],
     tag_bytes: &[u8],
     p: usize,
 ) -> Next
-    requires { ⌜ Sheet r (buffers (now text) (now types) (now boundaries) (now «char_pos») (now «byte_pos») (now «row_ends») (now «tag_ends») (now «tag_bytes»)) ⌝ }
+    requires { ⌜ Sheet r (buffers (now text) (now types) (now boundaries) (now «char_pos») (now «byte_pos») (now «cell_starts») (now «cell_lengths») (now «tag_bytes»)) ⌝ }
 {
     if is_long(r) {
         return Next::Is(tokens::given::next_token(boundaries, r.n, p));
@@ -155,8 +155,8 @@ fn step(
         boundaries,
         char_pos,
         byte_pos,
-        row_ends,
-        tag_ends,
+        cell_starts,
+        cell_lengths,
         tag_bytes,
         p,
     )
@@ -170,13 +170,13 @@ fn row(
     boundaries: &[u8],
     char_pos: &[u16],
     byte_pos: &[u16],
-    row_ends: &[u16],
-    tag_ends: &[u16],
+    cell_starts: &[u16],
+    cell_lengths: &[u16],
     tag_bytes: &[u8],
     i: usize,
     sink: Sink,
 ) -> Sink
-    requires { ⌜ Sheet r (buffers (now text) (now types) (now boundaries) (now «char_pos») (now «byte_pos») (now «row_ends») (now «tag_ends») (now «tag_bytes»)) × (i < r .n) ⌝ }
+    requires { ⌜ Sheet r (buffers (now text) (now types) (now boundaries) (now «char_pos») (now «byte_pos») (now «cell_starts») (now «cell_lengths») (now «tag_bytes»)) × (i < r .n) ⌝ }
 {
     let mut s = sink;
     let mut j = 0;
@@ -189,8 +189,8 @@ fn row(
             boundaries,
             char_pos,
             byte_pos,
-            row_ends,
-            tag_ends,
+            cell_starts,
+            cell_lengths,
             tag_bytes,
             i,
             j,
@@ -209,12 +209,12 @@ fn rows(
     boundaries: &[u8],
     char_pos: &[u16],
     byte_pos: &[u16],
-    row_ends: &[u16],
-    tag_ends: &[u16],
+    cell_starts: &[u16],
+    cell_lengths: &[u16],
     tag_bytes: &[u8],
     sink: Sink,
 ) -> Sink
-    requires { ⌜ Sheet r (buffers (now text) (now types) (now boundaries) (now «char_pos») (now «byte_pos») (now «row_ends») (now «tag_ends») (now «tag_bytes»)) ⌝ }
+    requires { ⌜ Sheet r (buffers (now text) (now types) (now boundaries) (now «char_pos») (now «byte_pos») (now «cell_starts») (now «cell_lengths») (now «tag_bytes»)) ⌝ }
 {
     let mut s = sink.put(b' ');
     if r.columns == 0 {
@@ -230,8 +230,8 @@ fn rows(
             boundaries,
             char_pos,
             byte_pos,
-            row_ends,
-            tag_ends,
+            cell_starts,
+            cell_lengths,
             tag_bytes,
             i,
             s,
@@ -249,12 +249,12 @@ fn tokens_of(
     boundaries: &[u8],
     char_pos: &[u16],
     byte_pos: &[u16],
-    row_ends: &[u16],
-    tag_ends: &[u16],
+    cell_starts: &[u16],
+    cell_lengths: &[u16],
     tag_bytes: &[u8],
     sink: Sink,
 ) -> Sink
-    requires { ⌜ Sheet r (buffers (now text) (now types) (now boundaries) (now «char_pos») (now «byte_pos») (now «row_ends») (now «tag_ends») (now «tag_bytes»)) ⌝ }
+    requires { ⌜ Sheet r (buffers (now text) (now types) (now boundaries) (now «char_pos») (now «byte_pos») (now «cell_starts») (now «cell_lengths») (now «tag_bytes»)) ⌝ }
 {
     let mut s = sink.put(b' ');
     let mut p = 0;
@@ -267,8 +267,8 @@ fn tokens_of(
             boundaries,
             char_pos,
             byte_pos,
-            row_ends,
-            tag_ends,
+            cell_starts,
+            cell_lengths,
             tag_bytes,
             p,
         ) {
@@ -300,8 +300,8 @@ fn write_line(
     boundaries: &[u8],
     char_pos: &[u16],
     byte_pos: &[u16],
-    row_ends: &[u16],
-    tag_ends: &[u16],
+    cell_starts: &[u16],
+    cell_lengths: &[u16],
     tag_bytes: &[u8],
     room: &mut [u8],
 ) -> Number {
@@ -313,8 +313,8 @@ fn write_line(
             boundaries,
             char_pos,
             byte_pos,
-            row_ends,
-            tag_ends,
+            cell_starts,
+            cell_lengths,
             tag_bytes,
             room,
         );
@@ -326,8 +326,8 @@ fn write_line(
         boundaries,
         char_pos,
         byte_pos,
-        row_ends,
-        tag_ends,
+        cell_starts,
+        cell_lengths,
         tag_bytes,
         room,
     )
@@ -350,8 +350,8 @@ fn line_told(
     boundaries: &[u8],
     char_pos: &[u16],
     byte_pos: &[u16],
-    row_ends: &[u16],
-    tag_ends: &[u16],
+    cell_starts: &[u16],
+    cell_lengths: &[u16],
     tag_bytes: &[u8],
     sink: Sink,
 ) -> Sink {
@@ -364,8 +364,8 @@ fn line_told(
         boundaries,
         char_pos,
         byte_pos,
-        row_ends,
-        tag_ends,
+        cell_starts,
+        cell_lengths,
         tag_bytes,
         &mut room,
     );
@@ -394,12 +394,12 @@ fn labels(
     boundaries: &[u8],
     char_pos: &[u16],
     byte_pos: &[u16],
-    row_ends: &[u16],
-    tag_ends: &[u16],
+    cell_starts: &[u16],
+    cell_lengths: &[u16],
     tag_bytes: &[u8],
     sink: Sink,
 ) -> Sink
-    requires { ⌜ Sheet r (buffers (now text) (now types) (now boundaries) (now «char_pos») (now «byte_pos») (now «row_ends») (now «tag_ends») (now «tag_bytes»)) ⌝ }
+    requires { ⌜ Sheet r (buffers (now text) (now types) (now boundaries) (now «char_pos») (now «byte_pos») (now «cell_starts») (now «cell_lengths») (now «tag_bytes»)) ⌝ }
 {
     let listed = rows(
         r,
@@ -408,8 +408,8 @@ fn labels(
         boundaries,
         char_pos,
         byte_pos,
-        row_ends,
-        tag_ends,
+        cell_starts,
+        cell_lengths,
         tag_bytes,
         sink,
     );
@@ -420,8 +420,8 @@ fn labels(
         boundaries,
         char_pos,
         byte_pos,
-        row_ends,
-        tag_ends,
+        cell_starts,
+        cell_lengths,
         tag_bytes,
         listed,
     )
@@ -435,8 +435,8 @@ fn labels_checked(
     boundaries: &[u8],
     char_pos: &[u16],
     byte_pos: &[u16],
-    row_ends: &[u16],
-    tag_ends: &[u16],
+    cell_starts: &[u16],
+    cell_lengths: &[u16],
     tag_bytes: &[u8],
     sink: Sink,
 ) -> Sink {
@@ -447,8 +447,8 @@ fn labels_checked(
         boundaries,
         char_pos,
         byte_pos,
-        row_ends,
-        tag_ends,
+        cell_starts,
+        cell_lengths,
         tag_bytes,
     ) {
         return sink.put(b' ').refused(13, 0);
@@ -460,8 +460,8 @@ fn labels_checked(
         boundaries,
         char_pos,
         byte_pos,
-        row_ends,
-        tag_ends,
+        cell_starts,
+        cell_lengths,
         tag_bytes,
         sink,
     )
@@ -475,8 +475,8 @@ fn ended(
     boundaries: &[u8],
     char_pos: &[u16],
     byte_pos: &[u16],
-    row_ends: &[u16],
-    tag_ends: &[u16],
+    cell_starts: &[u16],
+    cell_lengths: &[u16],
     tag_bytes: &[u8],
     sink: Sink,
 ) -> Sink {
@@ -487,8 +487,8 @@ fn ended(
         boundaries,
         char_pos,
         byte_pos,
-        row_ends,
-        tag_ends,
+        cell_starts,
+        cell_lengths,
         tag_bytes,
         sink,
     );
@@ -500,8 +500,8 @@ fn ended(
         boundaries,
         char_pos,
         byte_pos,
-        row_ends,
-        tag_ends,
+        cell_starts,
+        cell_lengths,
         tag_bytes,
         labelled,
     );
@@ -513,8 +513,8 @@ fn ended(
         boundaries,
         char_pos,
         byte_pos,
-        row_ends,
-        tag_ends,
+        cell_starts,
+        cell_lengths,
         tag_bytes,
         told,
     )
@@ -528,8 +528,8 @@ fn fields(
     boundaries: &[u8],
     char_pos: &[u16],
     byte_pos: &[u16],
-    row_ends: &[u16],
-    tag_ends: &[u16],
+    cell_starts: &[u16],
+    cell_lengths: &[u16],
     tag_bytes: &[u8],
     sink: Sink,
 ) -> Sink {
@@ -542,8 +542,8 @@ fn fields(
         boundaries,
         char_pos,
         byte_pos,
-        row_ends,
-        tag_ends,
+        cell_starts,
+        cell_lengths,
         tag_bytes,
         placed,
     )

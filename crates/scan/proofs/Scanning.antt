@@ -8,13 +8,13 @@ use borrow.Author.Tests.{lt-ltb, le-ltb, ltb-false}
 use lib.Dec.{ltb}
 use lib.ListN.{length, drop}
 use Rattle.laws.specs.If.{if_then_else_, if-true, if-false, if-map}
-use Rattle.utf8.specs.Utf8.{width, size, decodeAt, chars, validPrefix, values, scalars}
+use Rattle.utf8.specs.Utf8.{width, size, decodeAt, validPrefix, values, scalars}
 use Rattle.utf8.specs.declared.Decoded.{Decoded}
 use Rattle.utf8.specs.declared.Decoded.the-variants.{Char, Bad, End}
 use Rattle.utf8.proofs.Laws.{Passed, len-ok, width-at, chars-char, chars-end, passed-char, passed-bad, passed-end, end-past, bad-inside, char-within}
 use Rattle.sentence.specs.Sentence.{Sentence}
 use Rattle.sentence.specs.Reading as reading
-use Rattle.sentence.specs.Reading.{Form, Place, at, escaped, start, behind, inTag, gap, Act, skip, letter, opens, ofTag, go, stop, kind, advance, Run, whole, stopped, ending, finish, push, follow, run, over, next, Parsed, parsed, gather, sentence, built, placed, read}
+use Rattle.sentence.specs.Reading.{Form, Place, at, escaped, start, behind, inTag, gap, Act, skip, letter, opens, ofTag, go, stop, advance, Run, whole, stopped, ending, finish, push, follow, run, over, next, Parsed, parsed, gather, sentence, built, placed, read}
 use Rattle.sentence.specs.Refusals.{refusal}
 use Rattle.sentence.proofs.Shape.{ActOf, StepOf}
 use Rattle.sheet.specs.Layout.{recordOf}
@@ -29,8 +29,8 @@ use Rattle.reader.specs.Flags.{stateOf, flags, actOf, stepped, ended}
 use Rattle.reader.proofs.Enums.{state-back}
 use Rattle.reader.proofs.Advances.{advance-of, advanced-by-number, refused-by-number}
 use Rattle.counts.specs.declared.Counts.{Counts}
-use Rattle.counts.specs.Counts.{Small, opened, nothing, bytes, tallyBy, tally, tallies, counted}
-use Rattle.counts.proofs.Bounds.{small-more, tally-small}
+use Rattle.counts.specs.Counts.{Small, nothing, bytes, tallyBy, tally, tallies, counted}
+use Rattle.counts.proofs.Bounds.{nothing-small, small-more, tally-small}
 use Rattle.counts.proofs.Rests.{Fresh, run-fresh}
 use Rattle.counts.proofs.Totals.{counted-is}
 use Rattle.scan.specs.Scan.{scanned, told, orInvalid}
@@ -92,11 +92,10 @@ pub scan-small : {f : Form} {x : List ℕ} {s : State} {k : Counts} {p : ℕ} �
 scan-small {k} {p} h = small-more p 4096 k (omega (arith, h .short, h .within)) (h .small)
 
 pub scan-start : (f : Form) (x : List ℕ) (s : State) (k : Counts) → length x ≤ 4096 → s ≡ flags (at start) → k ≡ nothing → Scanning f x s k 0
-unfolding nothing opened
 scan-start f x s k h e g = record {
   short = h;
   within = omega arith;
-  small = rw g (record { n-small = omega arith; b-small = omega arith; columns-small = omega arith; tags-small = omega arith; k-small = omega arith; g-small = omega arith });
+  small = rw g nothing-small;
   passed = record { same = omega arith };
   same = rw (e, g, state-back (at start));
 }

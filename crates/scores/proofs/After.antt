@@ -10,7 +10,7 @@ use Rattle.sheet.specs.declared.Answer.{Answer}
 use Rattle.sheet.specs.declared.Answer.the-variants as answer
 use Rattle.sheet.specs.Layout.{Buffers, Holds, spell}
 use Rattle.sheet.proofs.Exact.{is-sheet}
-use Rattle.changes.proofs.Changed.{text-bare, rows-bare, none-listed, no-tag-bytes, text-marked, reset-formed, marked-formed}
+use Rattle.changes.proofs.Changed.{text-bare, rows-bare, no-tag-bytes, text-marked, reset-formed, marked-formed}
 use Rattle.changes.proofs.After.{room-kept, lays-holds}
 use Rattle.scores.specs.Scores.{Predicted, scoreAnswer}
 
@@ -24,5 +24,5 @@ predicted-holds r d zs a e q l h =
     lays-holds _ (scored zs s) d a e q l h (λ p.
     let k = is-sheet r d (not-false _ (p .0)) in (
       reset-formed 0 (record { cells = t; columns = s .columns }) (omega arith) (marked-formed ms s (k .formed)),
-      room-kept k (scored zs s) (text-bare t ∙ text-marked ms (s .cells)) (rw (rows-bare t, none-listed) (omega arith)) (rw (rows-bare t, no-tag-bytes) (omega arith)),
+      room-kept k (scored zs s) (text-bare t ∙ text-marked ms (s .cells)) (omega arith) (omega arith) (rw (rows-bare t, no-tag-bytes) (omega arith)),
     ))

@@ -1,12 +1,12 @@
 -- What the decision's proofs need. Assumes nothing.
-use Prim.Native.Nat.{ℕ, zero, suc, _+_, _-_, _^_, _≤_, _<_}
+use Prim.Native.Nat.{ℕ, _*_, zero, suc, _+_, _-_, _^_, _≤_, _<_}
 use native.Mathlib.Omega.{arith}
 use mathlib.Core.Path.{_≡_, refl, sym, _∙_}
 use mathlib.Core.Bool.{true, false, false≢true}
 use mathlib.Core.List.{List, [], _∷_, _++_, map}
 use lib.IntN.{ℤ, pos, negsuc}
 use borrow.Author.Tests.{lt-ltb}
-use lib.ListN.{length, getD, drop, replicate, length-replicate, length-map, drop-of-length-le}
+use lib.ListN.{length, getD, drop, replicate, length-map, drop-of-length-le}
 use lib.Signed.{mag, ltZ}
 use mir.Syntax.{w32}
 use mir.Val.{SFits, hbits, ofZ, toZ}
@@ -18,8 +18,8 @@ use Rattle.sheet.specs.Layout.{Buffers, buffers, recordOf, lay, laid, Holds}
 use Rattle.sentence.specs.Sentence.{code, Sentence, text, marks, rows}
 use Rattle.sentence.specs.Writing.{marked, resetTags, decision, scored}
 use Rattle.changes.specs.Changes.{Laid}
-use Rattle.changes.proofs.Changed.{text-bare, marks-bare, rows-bare, none-listed, no-tag-bytes, text-marked, marks-marked}
-use Rattle.changes.proofs.Kept.{text-kept, types-kept, char-pos-kept, byte-pos-kept, row-ends-reset, tag-ends-reset, tag-bytes-reset}
+use Rattle.changes.proofs.Changed.{text-bare, marks-bare, rows-bare, no-tag-bytes, text-marked, marks-marked}
+use Rattle.changes.proofs.Kept.{text-kept, types-kept, char-pos-kept, byte-pos-kept, cell-starts-reset, cell-lengths-reset, tag-bytes-reset}
 
 -- a score above zero, and one that is not
 pub above : (z : ℤ) → SFits w32 z → ltZ (toZ w32 0) (toZ w32 (ofZ w32 z)) ≡ true → 1 ≡ code (decision z)
@@ -55,13 +55,12 @@ pub ruleset decides = (decide-none, decide-long)
 
 -- ---- what the call leaves
 module _ {r : Record} {d : Buffers} {s : Sentence} (h : Holds r d s) where
-  pub scores-lay : (zs : List ℤ) (marked-as ends : List ℕ) → length zs ≡ r .n - 1
+  pub scores-lay : (zs : List ℤ) (marked-as : List ℕ) → length zs ≡ r .n - 1
       → marked-as ≡ map code (map decision zs) ++ drop (length zs) (d .boundaries-buf)
-      → ends ≡ replicate (r .n) 0 ++ drop (r .n) (d .row-ends-buf)
-      → Laid (scored zs s) d (answer.Sentence (record { n = r .n; b = r .b; columns = 0; k = 0; g = 0 }))
-      (buffers (d .text-buf) (d .types-buf) marked-as (d .char-pos-buf) (d .byte-pos-buf) ends (d .tag-ends-buf) (d .tag-bytes-buf))
+      → Laid (scored zs s) d (answer.Sentence (record { n = r .n; b = r .b; columns = 0; cells = 0; g = 0 }))
+      (buffers (d .text-buf) (d .types-buf) marked-as (d .char-pos-buf) (d .byte-pos-buf) (d .cell-starts-buf) (d .cell-lengths-buf) (d .tag-bytes-buf))
   unfolding recordOf lay laid scored resetTags
-  scores-lay zs marked-as ends l e f =
+  scores-lay zs marked-as l e =
       let t = scored zs s in
       let c = marked (map decision zs) (s .cells) in
       let x : text t ≡ text s = text-bare c ∙ text-marked (map decision zs) (s .cells) in
@@ -70,13 +69,13 @@ module _ {r : Record} {d : Buffers} {s : Sentence} (h : Holds r d s) where
       let y : rows t ≡ replicate (r .n) [] = rows-bare c ∙ rw (text-marked (map decision zs) (s .cells), n) in
       let m : marks t ≡ map decision zs = marks-bare c ∙ marks-marked (map decision zs) (s .cells) (length-map zs decision ∙ l ∙ sym (bounds h .marks-long)) in
       record {
-        answer-is = rw (x, y, none-listed, no-tag-bytes, ← n, ← b);
+        answer-is = let z : r .n * 0 ≡ 0 = omega arith in rw (x, y, no-tag-bytes, ← n, ← b, z);
         text-is = sym (text-kept h t x);
         types-is = sym (types-kept h t x);
         boundaries-is = e ∙ rw (m, length-map (map decision zs) code, length-map zs decision);
         char-pos-is = sym (char-pos-kept h t x);
         byte-pos-is = sym (byte-pos-kept h t x);
-        row-ends-is = f ∙ sym (row-ends-reset h t y ∙ rw length-replicate);
-        tag-ends-is = sym (tag-ends-reset h t y);
+        cell-starts-is = let z : r .n * 0 ≡ 0 = omega arith in sym (cell-starts-reset h t y ∙ rw z);
+        cell-lengths-is = let z : r .n * 0 ≡ 0 = omega arith in sym (cell-lengths-reset h t y ∙ rw z);
         tag-bytes-is = sym (tag-bytes-reset h t y);
       }

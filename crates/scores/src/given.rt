@@ -37,21 +37,20 @@ pub fn predict(
     boundaries: &mut [u8],
     char_pos: &[u16],
     byte_pos: &[u16],
-    row_ends: &mut [u16],
-    tag_ends: &[u16],
+    cell_starts: &[u16],
+    cell_lengths: &[u16],
     tag_bytes: &[u8],
     scores: &[i32],
 ) -> Answer
-    requires { ⌜ Sheet r (buffers (now text) (now types) (now boundaries) (now «char_pos») (now «byte_pos») (now «row_ends») (now «tag_ends») (now «tag_bytes»)) × (length (now scores) ≡ r .n - 1) ⌝ }
-    ensures { λ a. ⌜ Laid (scored (now (scores .entry)) (spell r (buffers (now (text .entry)) (now (types .entry)) (now (boundaries .entry)) (now («char_pos» .entry)) (now («byte_pos» .entry)) (now («row_ends» .entry)) (now («tag_ends» .entry)) (now («tag_bytes» .entry))))) (buffers (now (text .entry)) (now (types .entry)) (now (boundaries .entry)) (now («char_pos» .entry)) (now («byte_pos» .entry)) (now («row_ends» .entry)) (now («tag_ends» .entry)) (now («tag_bytes» .entry))) a (buffers (now (text .entry)) (now (types .entry)) (now (boundaries .exit)) (now («char_pos» .entry)) (now («byte_pos» .entry)) (now («row_ends» .exit)) (now («tag_ends» .entry)) (now («tag_bytes» .entry))) ⌝ }
+    requires { ⌜ Sheet r (buffers (now text) (now types) (now boundaries) (now «char_pos») (now «byte_pos») (now «cell_starts») (now «cell_lengths») (now «tag_bytes»)) × (length (now scores) ≡ r .n - 1) ⌝ }
+    ensures { λ a. ⌜ Laid (scored (now (scores .entry)) (spell r (buffers (now (text .entry)) (now (types .entry)) (now (boundaries .entry)) (now («char_pos» .entry)) (now («byte_pos» .entry)) (now («cell_starts» .entry)) (now («cell_lengths» .entry)) (now («tag_bytes» .entry))))) (buffers (now (text .entry)) (now (types .entry)) (now (boundaries .entry)) (now («char_pos» .entry)) (now («byte_pos» .entry)) (now («cell_starts» .entry)) (now («cell_lengths» .entry)) (now («tag_bytes» .entry))) a (buffers (now (text .entry)) (now (types .entry)) (now (boundaries .exit)) (now («char_pos» .entry)) (now («byte_pos» .entry)) (now («cell_starts» .entry)) (now («cell_lengths» .entry)) (now («tag_bytes» .entry))) ⌝ }
 {
     fill(scores, boundaries);
-    changes::given::clear(row_ends, r.n);
     Answer::Sentence(Record {
         n: r.n,
         b: r.b,
         columns: 0,
-        k: 0,
+        cells: 0,
         g: 0,
     })
 }

@@ -1,8 +1,8 @@
 -- What the readers answer is well formed, and within the limits. Assumes nothing.
-use Prim.Native.Nat.{ℕ, zero, suc, _+_, _≤_, max}
+use Prim.Native.Nat.{ℕ, suc, _+_, _≤_, max}
 use mathlib.Core.Path.{_≡_, refl, sym, ap, _∙_}
 use mathlib.Core.Bool.{Bool, true, false}
-use mathlib.Core.List.{List, [], _∷_, _++_}
+use mathlib.Core.List.{List, [], _∷_}
 use native.Mathlib.Omega.{arith}
 use lib.Dec.{eqb, ltb}
 use borrow.Author.Tests.{ltb-false}
@@ -12,7 +12,7 @@ use Rattle.laws.specs.All.{All}
 use Rattle.utf8.specs.Utf8.{scalars, validPrefix, scalar, width, size}
 use Rattle.utf8.proofs.Codec.{width-small, length-encodes, encodes-scalars, valid-within, all-scalar}
 use Rattle.sentence.specs.Sentence.{Tag, Mark, none, word, unknown, Cells, final, cell, Sentence, textOf, rowsOf, text, rows, onto, cut, listed, rowBytes, tagBytes, Char, Row, CellsOf, Formed}
-use Rattle.sentence.specs.Reading.{Form, raw, tokenized, partial, Kind, mark, slash, back, plain, kinds, look, kind, Place, start, behind, inTag, gap, State, at, escaped, Act, skip, letter, opens, ofTag, Step, go, stop, ordinary, inside, opening, step, advance, Run, whole, stopped, ending, finish, push, follow, run, Rest, over, next, Parsed, parsed, before, add, gather, Result, sentence, refused, built, placed, read}
+use Rattle.sentence.specs.Reading.{Form, raw, tokenized, partial, Kind, mark, slash, back, plain, kind, Place, start, behind, inTag, gap, State, at, escaped, Act, skip, letter, opens, ofTag, Step, go, stop, ordinary, inside, opening, step, advance, Run, whole, stopped, ending, finish, push, follow, run, Rest, over, next, Parsed, parsed, before, add, gather, Result, sentence, refused, built, placed, read}
 use Rattle.sentence.proofs.Trips.{Whole}
 
 -- ---- a cut row
@@ -33,7 +33,7 @@ unfolding cut
 cut-cuts [] h = record { chars = tt; shorter = omega arith; again = refl }
 cut-cuts (t ∷ ts) h = onto-cuts (length ts) t (cut ts) (h .0) (cut-cuts ts (h .1))
 
-cut-row : (n : ℕ) (ts : List Tag) → All (All Char) ts → Row (max (length ts) n) (cut ts)
+pub cut-row : (n : ℕ) (ts : List Tag) → All (All Char) ts → Row (max (length ts) n) (cut ts)
 cut-row n ts h = let c = cut-cuts ts h in record { chars = c .chars; is-cut = c .again; fits = omega (arith, c .shorter) }
 
 wider-row : (m n : ℕ) (r : List Tag) → m ≤ n → Row m r → Row n r
@@ -147,12 +147,17 @@ abbrev restLoad : Rest → ℕ
 restLoad over = 0
 restLoad (next m s) = load s
 
+-- how many characters follow
+abbrev restLong : Rest → ℕ
+restLong over = 0
+restLong (next m s) = length (textOf s)
+
 record Good (x : List ℕ) (t : Tag) (ts : List Tag) (n : ℕ) (r : Rest) : Type 0 where
   tag-chars : All Char t
   tags-chars : All (All Char) ts
   rest-is : RestOf n r
   light : size t + rowBytes ts + length ts + restLoad r ≤ size x
-  narrow : n + length ts ≤ size x
+  narrow : n + length ts + restLong r ≤ size x
 
 abbrev GoodParsed : List ℕ → Parsed → Type 0
 GoodParsed x (parsed t ts n r) = Good x t ts n r
@@ -181,6 +186,11 @@ unfolding before textOf rowsOf size listed tagBytes
 before-load c ts over h = omega (arith, cut-bytes ts, cut-cuts ts h .shorter)
 before-load c ts (next m s) h = omega (arith, cut-bytes ts, cut-cuts ts h .shorter)
 
+before-long : (c : ℕ) (ts : List Tag) (r : Rest) → length (textOf (before c ts r)) ≡ suc (restLong r)
+unfolding before textOf
+before-long c ts over = refl
+before-long c ts (next m s) = refl
+
 add-good : (a : Act) (c : ℕ) (x : List ℕ) (p : Parsed) → Char c → ActOf c a → GoodParsed x p → GoodParsed (c ∷ x) (add a p)
 unfolding add size rowBytes
 add-good skip c x (parsed t ts n r) z e g =
@@ -190,7 +200,7 @@ add-good (letter m d) c x (parsed t ts n r) z e g = record {
   tags-chars = tt;
   rest-is = before-of d ts n r (rw e z) (g .tags-chars) (g .rest-is);
   light = omega (arith, before-load d ts r (g .tags-chars), ap width e, g .light);
-  narrow = omega (arith, g .narrow);
+  narrow = omega (arith, g .narrow, before-long d ts r, width-small c);
 }
 add-good opens c x (parsed t ts n r) z e g = record {
   tag-chars = tt;
@@ -376,9 +386,9 @@ ReadIn raw s = Unit {0}
 ReadIn tokenized s = Whole s
 ReadIn partial s = Unit {0}
 
--- and no more bytes and listed tags than the line, of k bytes
+-- and no more bytes and listed tags, nor more characters and columns, than the line of k bytes has bytes
 abbrev Answers : Form → ℕ → Result → Type 0
-Answers f k (sentence s) = Formed s × ReadIn f (s .cells) × (load (s .cells) ≤ k)
+Answers f k (sentence s) = Formed s × ReadIn f (s .cells) × (load (s .cells) ≤ k) × (length (text s) + s .columns ≤ k)
 Answers f k (refused e p) = Unit {0}
 
 rest-answers : (f : Form) (x : List ℕ) (t : Tag) (ts : List Tag) (n : ℕ) (r : Rest) → size x ≤ 4096 → Good x t ts n r → (f ≡ tokenized → Begun r) → Answers f (size x) (built (parsed t ts n r))
@@ -389,11 +399,11 @@ rest-answers f x t ts n (next m s) le g w = (
     cells-are = g .rest-is;
     text-fits = omega (arith, g .light);
     columns-fit = omega (arith, g .narrow);
-    tags-fit = omega (arith, g .light);
     bytes-fit = omega (arith, g .light);
   },
   read-in f w,
   omega (arith, g .light),
+  omega (arith, g .narrow),
 )
   where
     read-in : (f : Form) → (f ≡ tokenized → Whole s) → ReadIn f s
@@ -437,6 +447,10 @@ read-answers f x = long (ltb 4096 (length x)) refl
 pub read-formed : (f : Form) (x : List ℕ) (s : Sentence) → read f x ≡ sentence s → Formed s × ReadIn f (s .cells)
 read-formed f x s e = let a = rw e at (read-answers f x) in (a .0, a .1)
 
--- B + K + G is at most the line's length
+-- text bytes, listed tags and tag bytes are together at most the line's length
 pub read-light : (f : Form) (x : List ℕ) (s : Sentence) → read f x ≡ sentence s → size (text s) + listed (rows s) + tagBytes (rows s) ≤ length x
 read-light f x s e = (rw e at (read-answers f x)) .2
+
+-- characters and columns are together at most the line's length
+pub read-narrow : (f : Form) (x : List ℕ) (s : Sentence) → read f x ≡ sentence s → length (text s) + s .columns ≤ length x
+read-narrow f x s e = (rw e at (read-answers f x)) .3

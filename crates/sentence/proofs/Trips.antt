@@ -1,21 +1,21 @@
 -- The trips, on characters: reading what a form writes gives the sentence. Assumes nothing.
 use Prim.Native.Nat.{ℕ, zero, suc, _+_, _-_, _≤_, max}
 use mathlib.Core.Path.{_≡_, refl, sym, ap, _∙_}
-use mathlib.Core.Bool.{Bool, true, false}
+use mathlib.Core.Bool.{true, false}
 use mathlib.Core.List.{List, [], _∷_, _++_, map, append-assoc, append-nil}
 use native.Mathlib.Omega.{arith}
 use lib.Dec.{eqb}
-use lib.ListN.{length, take, drop, getD, replicate, length-append, length-replicate}
+use lib.ListN.{length, take, drop, getD, replicate, length-append, length-replicate, replicate-append-replicate}
 use lib.Seq.{take-at, drop-at, drop-drop, getD-drop}
 use Rattle.laws.specs.If.{if_then_else_}
 use Rattle.laws.specs.All.{All, All-append}
-use Rattle.sentence.specs.Sentence.{Tag, Mark, none, word, unknown, Cells, final, cell, Sentence, textOf, marksOf, rowsOf, text, marks, rows, onto, cut, pad, Char, Row, CellsOf}
-use Rattle.sentence.specs.Reading.{Form, Annotated, raw, tokenized, partial, Kind, mark, slash, back, plain, kind, Place, start, behind, inTag, gap, State, at, escaped, Act, skip, letter, Step, go, ordinary, inside, opening, step, Rest, over, next, Parsed, parsed, before, add}
-use Rattle.sentence.specs.Writing.{Token, token, tokens, tokensFrom, surface, escapeAs, escape, writeTags, writeToken, joined, sign, shown, writePartial, line}
-use Rattle.sentence.proofs.Runs.{Got, got, adds, reads, reads-go, reads-char, Follows, reads-tags, follows-mark, follows-end}
+use Rattle.sentence.specs.Sentence.{Tag, Mark, none, word, unknown, Cells, final, cell, Sentence, textOf, marksOf, rowsOf, text, rows, onto, cut, pad, Char, Row, CellsOf}
+use Rattle.sentence.specs.Reading.{Form, Annotated, raw, tokenized, partial, Kind, mark, back, plain, kind, Place, start, behind, gap, at, escaped, skip, letter, go, ordinary, inside, opening, step, next, parsed, before, add}
+use Rattle.sentence.specs.Writing.{token, tokens, escapeAs, escape, writeTags, writeToken, joined, sign, shown, writePartial, line}
+use Rattle.sentence.proofs.Runs.{got, adds, reads, reads-go, reads-char, reads-tags, follows-mark, follows-end}
 
 -- ---- rows and what is written of them
-all-absent : (k : ℕ) → All (All Char) (replicate k [])
+pub all-absent : (k : ℕ) → All (All Char) (replicate k [])
 all-absent zero = tt
 all-absent (suc k) = (tt, all-absent k)
 
@@ -32,6 +32,35 @@ cut-append (t ∷ r) k = rw (cut-append r k)
 pub cut-pad : (n : ℕ) (r : List Tag) → cut (pad n r) ≡ cut r
 unfolding pad
 cut-pad n r = cut-append r (n - length r)
+
+-- what is cut off a row are absent tags
+cut-refilled : (ts : List Tag) → cut ts ++ replicate (length ts - length (cut ts)) [] ≡ ts
+unfolding cut onto
+cut-refilled [] = refl
+cut-refilled (t ∷ us) = on t (cut us) (cut-refilled us)
+  where
+    on : (t : Tag) (x : List Tag) → x ++ replicate (length us - length x) [] ≡ us → onto t x ++ replicate (suc (length us) - length (onto t x)) [] ≡ t ∷ us
+    on [] [] e =
+        let f : length us - 0 ≡ length us = omega arith in
+        let q : suc (length us) - 0 ≡ suc (length us) = omega arith in
+        rw q (ap (λ (l : List Tag). [] ∷ l) (rw f at e))
+    on (c ∷ t) [] e = let f : suc (length us) - 1 ≡ length us - 0 = omega arith in rw f (ap (λ (l : List Tag). (c ∷ t) ∷ l) e)
+    on t (v ∷ vs) e =
+        let f : suc (length us) - suc (suc (length vs)) ≡ length us - suc (length vs) = omega arith in rw f (ap (λ (l : List Tag). t ∷ l) e)
+
+-- a row that is as long as there are columns
+pub pad-whole : (n : ℕ) (ts : List Tag) → length ts ≡ n → pad n (cut ts) ≡ ts
+unfolding pad
+pad-whole n ts e = rw (← e) (cut-refilled ts)
+
+-- a row is padded as it is with its last absent tags
+pub pad-cut : (n : ℕ) (ts : List Tag) → length ts ≤ n → pad n (cut ts) ≡ pad n ts
+unfolding pad
+pad-cut n ts h =
+    let r = cut-refilled ts in
+    let l : length (cut ts) ≤ length ts = omega (arith, ap length r, length-append (cut ts) (replicate (length ts - length (cut ts)) [])) in
+    let f : (length ts - length (cut ts)) + (n - length ts) ≡ n - length (cut ts) = omega arith in
+    sym (ap (λ (l : List Tag). l ++ replicate (n - length ts) []) (sym r) ∙ rw (append-assoc, replicate-append-replicate, f))
 
 pub pad-length : (n : ℕ) (r : List Tag) → length r ≤ n → length (pad n r) ≡ n
 unfolding pad

@@ -13,7 +13,7 @@ use Rattle.laws.specs.If.{if_then_else_, if-true, if-false}
 use Rattle.laws.specs.All.{All}
 use Rattle.utf8.specs.Utf8.{validPrefix, scalar, encodes}
 use Rattle.utf8.proofs.Codec.{length-encodes, scalars-encodes, valid-encodes}
-use Rattle.sentence.specs.Sentence.{Tag, Mark, none, unknown, Cells, final, cell, Sentence, textOf, marksOf, rowsOf, text, marks, count, onto, cut, listed, rowBytes, tagBytes, Row, CellsOf, Formed}
+use Rattle.sentence.specs.Sentence.{Tag, Mark, none, unknown, Cells, final, cell, Sentence, textOf, marksOf, rowsOf, text, marks, count, onto, cut, rowBytes, tagBytes, Row, CellsOf, Formed}
 use Rattle.sentence.specs.Reading.{raw, partial, plain, kind, behind, start, State, at, Act, letter, go, ordinary, inside, step, advance, whole, ending, finish, push, follow, run, next, parsed, before, add, gather, sentence, built, placed, read}
 use Rattle.sentence.specs.Writing.{written}
 use Rattle.sentence.proofs.Demand3.{same-read, read-written}
@@ -152,7 +152,6 @@ formed-trimmed s f = record {
   cells-are = cells-in (s .columns) (widest (s .cells)) (s .cells) (omega arith) (f .cells-are);
   text-fits = f .text-fits;
   columns-fit = omega (arith, f .columns-fit, widest-few (s .columns) (s .cells) (f .cells-are));
-  tags-fit = f .tags-fit;
   bytes-fit = f .bytes-fit;
 }
 
@@ -209,20 +208,10 @@ pub withheld-reads : (b e : ℕ) (s : Sentence) → CellsOf (s .columns) (s .cel
 withheld-reads b e s h l = read-written partial (withheld b e s) (cells-withheld b e s h) tt l
 
 -- ---- a copy is within the limits
-shorter : (t : Bool) (r : List Tag) → length (if t then [] else r) ≤ length r
-unfolding if_then_else_
-shorter true r = omega arith
-shorter false r = omega arith
-
 fewer : (t : Bool) (r : List Tag) → rowBytes (if t then [] else r) ≤ rowBytes r
 unfolding if_then_else_ rowBytes
 fewer true r = omega arith
 fewer false r = omega arith
-
-listed-hidden : (b e i : ℕ) (s : Cells) → listed (rowsOf (hidden b e i s)) ≤ listed (rowsOf s)
-unfolding hidden rowsOf listed
-listed-hidden b e i (final c r) = omega (arith, shorter (inRange b e i) r)
-listed-hidden b e i (cell c r m s) = omega (arith, shorter (inRange b e i) r, listed-hidden b e (i + 1) s)
 
 pub bytes-hidden : (b e i : ℕ) (s : Cells) → tagBytes (rowsOf (hidden b e i s)) ≤ tagBytes (rowsOf s)
 unfolding hidden rowsOf tagBytes
@@ -240,7 +229,6 @@ formed-withheld b e s f = formed-trimmed _ (record {
   cells-are = cells-hidden b e 0 (s .columns) (s .cells) (f .cells-are);
   text-fits = rw (text-hidden b e 0 (s .cells)) (f .text-fits);
   columns-fit = f .columns-fit;
-  tags-fit = omega (arith, f .tags-fit, listed-hidden b e 0 (s .cells));
   bytes-fit = omega (arith, f .bytes-fit, bytes-hidden b e 0 (s .cells));
 })
 

@@ -1,7 +1,7 @@
 -- A sentence as a value, apart from its memory: characters, boundaries, columns and rows of tags.
-use Prim.Native.Nat.{ℕ, zero, suc, _+_, _-_, _≤_}
+use Prim.Native.Nat.{ℕ, _+_, _-_, _≤_}
 use mathlib.Core.Path.{_≡_}
-use mathlib.Core.Bool.{Bool, true, false}
+use mathlib.Core.Bool.{true, false}
 use mathlib.Core.List.{List, [], _∷_, _++_, map}
 use lib.Dec.{eqb}
 use lib.ListN.{length, replicate}
@@ -127,12 +127,11 @@ abbrev pub CellsOf : ℕ → Cells → Type 0
 CellsOf n (final c r) = Char c × Row n r
 CellsOf n (cell c r m s) = Char c × Row n r × CellsOf n s
 
--- within the limits: B and columns at most 4,096, K and G at most 65,535; N is at least 1 by its making
+-- within the limits: B and columns at most 4,096, G at most 65,535; N is at least 1 by its making
 pub record Formed (s : Sentence) : Type 0 where
   pub cells-are : CellsOf (s .columns) (s .cells)
   pub text-fits : size (text s) ≤ 4096
   pub columns-fit : s .columns ≤ 4096
-  pub tags-fit : listed (rows s) ≤ 65535
   pub bytes-fit : tagBytes (rows s) ≤ 65535
 
 -- text, boundaries, column count and padded tags agree

@@ -1,26 +1,27 @@
 -- The test of a sheet is exact: where it is true the buffers hold the sentence that they spell, where it is false they hold none. Assumes nothing.
-use Prim.Native.Nat.{ℕ, zero, suc, _+_, _-_, _≤_, _<_}
+use Prim.Native.Nat.{ℕ, zero, suc, _+_, _-_, _*_, _≤_}
 use native.Mathlib.Omega.{arith}
 use mathlib.Core.Path.{_≡_, refl, sym, ap, _∙_}
-use mathlib.Core.Logic.{_↔_}
-use mathlib.Core.Bool.{Bool, true, false, _||_, true≢false, and-eq-true-iff}
+use mathlib.Core.Bool.{true, false, true≢false, false≢true, and-eq-true-iff}
 use mathlib.Core.List.{List, [], _∷_, _++_, map}
-use borrow.Author.Tests.{eq-eqb, eqb-true, eqb-false, le-leb, leb-true, lt-ltb, ltb-true}
-use lib.Dec.{eqb, leb}
-use lib.ListN.{length, take, drop, getD, length-map, length-take, length-drop, take-append-drop}
-use lib.Seq.{length-take-le, drop-drop, drop-length, take-append-le, drop-append-le, take-at, drop-at, getD-take, getD-drop}
+use borrow.Author.Tests.{eq-eqb, eqb-true, le-leb, leb-true}
+use lib.Dec.{leb}
+use lib.ListN.{length, take, drop, length-map, length-take, length-drop, take-append-drop}
+use lib.Seq.{length-take-le, drop-drop, drop-length, take-append-le, drop-append-le, take-at, drop-at}
 use Rattle.laws.specs.All.{All, All-imp}
 use Rattle.laws.proofs.Facts.{reads}
 use Rattle.utf8.specs.Utf8.{scalars, encodes, size}
-use Rattle.utf8.proofs.Codec.{width-small, length-encodes, scalars-encodes}
+use Rattle.utf8.proofs.Codec.{length-encodes, scalars-encodes}
 use Rattle.types.specs.TypeOf.{typeOf}
-use Rattle.sentence.specs.Sentence.{Tag, Mark, none, word, unknown, code, Cells, Sentence, textOf, marksOf, rowsOf, text, marks, rows, types, charPositions, bytePositions, onto, cut, listed, rowBytes, tagBytes, Char, Row, CellsOf, Formed}
-use Rattle.parts.specs.Parts.{isText, areMarks, chain, isTag, areTags, present, isRow, areRows}
+use Rattle.sentence.specs.Sentence.{Tag, Mark, none, word, unknown, code, Cells, Sentence, textOf, marksOf, rowsOf, text, marks, rows, types, charPositions, bytePositions, cut, rowBytes, tagBytes, Char, Row, CellsOf, Formed}
+use Rattle.sentence.proofs.Shape.{cut-row}
+use Rattle.sentence.proofs.Trips.{pad-whole}
+use Rattle.parts.specs.Parts.{isText, areMarks, isCell, areCells}
 use Rattle.parts.proofs.Says.{same-self, Plain, plain-is, is-plain, TextIs, text-is}
 use Rattle.sheet.specs.declared.Record.{Record}
-use Rattle.sheet.specs.Layout.{Buffers, recordOf, tagsOf, rowEnds, tagEnds, bytesOf, lay, roomFor, Front, Holds, pieces, markOf, link, spell, Sheet}
+use Rattle.sheet.specs.Layout.{Buffers, recordOf, tagsOf, cellsOf, cellStarts, bytesOf, lay, roomFor, Front, Holds, slices, rowsBy, markOf, link, spell, Sheet}
 use Rattle.sheet.specs.Check.{inLimits, isLaid, Room, isSheet}
-use Rattle.sheet.proofs.Held.{length-marks, length-rowEnds, length-tagEnds, length-tagsOf, length-bytesOf, bytes-tagsOf, n-held, b-held, columns-held, k-held, g-held, text-held, types-held, boundaries-held, char-pos-held, byte-pos-held, row-ends-held, tag-ends-held, tag-bytes-held, text-chars-held, rows-held, tags-chars-held}
+use Rattle.sheet.proofs.Held.{length-marks, length-cellStarts, length-bytesOf, bytes-tagsOf, bytes-same, some-bytes, n-held, b-held, columns-held, cells-held, g-held, text-held, types-held, boundaries-held, char-pos-held, byte-pos-held, cell-starts-held, cell-lengths-held, tag-bytes-held, text-chars-held, cells-chars-held}
 
 -- ---- boundaries
 marks-are : (ms : List ℕ) → areMarks ms ≡ true → map code (map markOf ms) ≡ ms
@@ -39,107 +40,58 @@ are-marks (none ∷ ms) = are-marks ms
 are-marks (word ∷ ms) = are-marks ms
 are-marks (unknown ∷ ms) = are-marks ms
 
--- ---- a list from g on, cut at e
-module _ {A : Type 0} (l : List A) (g e : ℕ) (h : g ≤ e) where
-  drop-to : drop (e - g) (drop g l) ≡ drop e l
-  drop-to = let q : g + (e - g) ≡ e = omega arith in rw (drop-drop, q)
-
-  cut-at : take (e - g) (drop g l) ++ drop e l ≡ drop g l
-  cut-at = rw (← drop-to) (take-append-drop (e - g) (drop g l))
-
-  length-cut : e ≤ length l → length (take (e - g) (drop g l)) ≡ e - g
-  length-cut k = length-take-le (e - g) (drop g l) (omega (arith, length-drop g l))
-
--- ---- tags
--- the tags from byte g of s on, which end at es
-record TagsAre (s : List ℕ) (g : ℕ) (es : List ℕ) (ts : List Tag) : Type 0 where
-  ends : tagEnds g ts ≡ es
+-- ---- cells
+-- the cells from byte g of s on, with their starts and lengths
+record CellsAre (s : List ℕ) (g : ℕ) (bs ls : List ℕ) (ts : List Tag) : Type 0 where
+  starts : cellStarts g ts ≡ bs
+  lengths : map size ts ≡ ls
   bytes : bytesOf ts ≡ drop g s
   chars : All (All Char) ts
 
-tags-more : (s : List ℕ) (g e : ℕ) (es : List ℕ) (ts : List Tag) → g ≤ e → e ≤ length s → Plain (take (e - g) (drop g s)) → TagsAre s e es ts
-    → TagsAre s g (e ∷ es) (scalars (take (e - g) (drop g s)) ∷ ts)
-unfolding tagEnds bytesOf
-tags-more s g e es ts h l p a =
-    let t = take (e - g) (drop g s) in
-    let z : g + size (scalars t) ≡ e = omega (arith, length-encodes (scalars t), ap length (p .bytes), length-cut s g e h l) in
+cells-none : (s : List ℕ) (g : ℕ) → g ≡ length s → CellsAre s g [] [] []
+unfolding cellStarts bytesOf
+cells-none s g e = record { starts = refl; lengths = refl; bytes = sym (rw e (drop-length s)); chars = tt }
+
+cells-more : (s : List ℕ) (g b l : ℕ) (bs ls : List ℕ) (ts : List Tag) → b ≡ g → g + l ≤ length s → Plain (take l (drop g s)) → CellsAre s (g + l) bs ls ts
+    → CellsAre s g (b ∷ bs) (l ∷ ls) (scalars (take l (drop g s)) ∷ ts)
+unfolding cellStarts bytesOf
+cells-more s g b l bs ls ts e h p a =
+    let t = take l (drop g s) in
+    let z : size (scalars t) ≡ l = omega (arith, length-encodes (scalars t), ap length (p .bytes), length-take-le l (drop g s) (omega (arith, length-drop g s))) in
     record {
-      ends = rw (z, a .ends);
-      bytes = rw (p .bytes, a .bytes) (cut-at s g e h);
+      starts = rw (z, a .starts, e);
+      lengths = rw (z, a .lengths);
+      bytes = rw (p .bytes, a .bytes, ← (drop-drop l g s)) (take-append-drop l (drop g s));
       chars = (p .chars, a .chars);
     }
 
-tags-none : (s : List ℕ) (g : ℕ) → g ≡ length s → TagsAre s g [] []
-unfolding tagEnds bytesOf
-tags-none s g e = record { ends = refl; bytes = sym (rw e (drop-length s)); chars = tt }
+cells-are : (s x : List ℕ) (g : ℕ) (bs ls : List ℕ) → areCells s g bs ls ≡ true → CellsAre s g bs ls (map scalars (slices ls (drop g s ++ x)))
+unfolding areCells isCell slices
+cells-are s x g [] [] e = cells-none s g (eqb-true g (length s) e)
+cells-are s x g [] (l ∷ ls) e = absurd (false≢true e)
+cells-are s x g (b ∷ bs) [] e = absurd (false≢true e)
+cells-are s x g (b ∷ bs) (l ∷ ls) k =
+    let (((a, f), p), rest) = simp and-eq-true-iff at k in
+    let v = leb-true (g + l) (length s) f in
+    let i : l ≤ length (drop g s) = omega (arith, length-drop g s) in
+    rw (take-append-le l (drop g s) x i, drop-append-le l (drop g s) x i, drop-drop)
+    (cells-more s g b l bs ls _ (eqb-true b g a) v (plain-is _ p) (cells-are s x (g + l) bs ls rest))
 
-tags-are : (s x : List ℕ) (g : ℕ) (es : List ℕ) → g ≤ length s → areTags s g es ≡ true → TagsAre s g es (map scalars (pieces g es (drop g s ++ x)))
-unfolding chain isTag pieces
-tags-are s x g [] h e = tags-none s g (eqb-true g (length s) e)
-tags-are s x g (e ∷ es) h k =
-    let (((a, b), p), rest) = simp and-eq-true-iff at k in
-    let u = leb-true g e a in
-    let v = leb-true e (length s) b in
-    let i : e - g ≤ length (drop g s) = omega (arith, length-drop g s) in
-    rw (take-append-le (e - g) (drop g s) x i, drop-append-le (e - g) (drop g s) x i, drop-to s g e u)
-    (tags-more s g e es _ u v (plain-is _ p) (tags-are s x e es v rest))
-
-are-tags : (s : List ℕ) (g : ℕ) (ts : List Tag) → All (All Char) ts → drop g s ≡ bytesOf ts → g + rowBytes ts ≡ length s → areTags s g (tagEnds g ts) ≡ true
-unfolding chain isTag tagEnds bytesOf rowBytes
-are-tags s g [] a e h = eq-eqb g (length s) (omega arith)
-are-tags s g (t ∷ ts) a e h =
-    let n : length (encodes t) ≡ g + size t - g = omega (arith, length-encodes t) in
-    let u : g ≤ g + size t = omega arith in
-    let c = ap (take (g + size t - g)) e ∙ take-at (encodes t) (bytesOf ts) _ n in
-    let d = sym (drop-to s g (g + size t) u) ∙ ap (drop (g + size t - g)) e ∙ drop-at (encodes t) (bytesOf ts) _ n in
-    rw (le-leb g (g + size t) u, le-leb (g + size t) (length s) (omega arith), c, is-plain t (a .0))
-    (are-tags s (g + size t) ts (a .1) d (omega arith))
-
--- ---- rows that end in a present tag
-cut-in : (r : List Tag) (n : ℕ) → length r ≡ suc n → 0 < size (getD r n []) → cut r ≡ r
-unfolding cut onto size
-cut-in [] n e h = absurd (omega arith)
-cut-in ([] ∷ []) zero e h = absurd (omega arith)
-cut-in ((c ∷ t) ∷ []) zero e h = refl
-cut-in (t ∷ []) (suc n) e h = absurd (omega arith)
-cut-in (t ∷ u ∷ us) zero e h = absurd (omega arith)
-cut-in (t ∷ u ∷ us) (suc n) e h = rw (cut-in (u ∷ us) n (omega arith) h)
-
-onto-tail : (t : Tag) (x : List Tag) (u : Tag) (us : List Tag) → onto t x ≡ t ∷ u ∷ us → x ≡ u ∷ us
-unfolding onto
-onto-tail [] [] u us e = cc
-onto-tail (c ∷ t) [] u us e = cc
-onto-tail t (v ∷ vs) u us e = cc
-
-cut-out : (r : List Tag) (n : ℕ) → length r ≡ suc n → cut r ≡ r → 0 < size (getD r n [])
-unfolding cut onto size
-cut-out [] n e h = absurd (omega arith)
-cut-out ([] ∷ []) zero e h = let z : _≡_ {A = ℕ} 0 1 = cc in omega arith
-cut-out ((c ∷ t) ∷ []) zero e h = omega (arith, width-small c)
-cut-out (t ∷ []) (suc n) e h = absurd (omega arith)
-cut-out (t ∷ u ∷ us) zero e h = absurd (omega arith)
-cut-out (t ∷ u ∷ us) (suc n) e h = cut-out (u ∷ us) n (omega arith) (onto-tail t (cut (u ∷ us)) u us h)
-
-bounds : (g : ℕ) (ts : List Tag) (j : ℕ) → j < length ts → getD (g ∷ tagEnds g ts) (suc j) 0 ≡ getD (g ∷ tagEnds g ts) j 0 + size (getD ts j [])
-unfolding tagEnds
-bounds g [] j h = absurd (omega arith)
-bounds g (t ∷ ts) zero h = refl
-bounds g (t ∷ ts) (suc j) h = bounds (g + size t) ts j (omega arith)
-
-present-is : (ts : List Tag) (e : ℕ) → 1 ≤ e → e ≤ length ts → (present (tagEnds 0 ts) e ≡ true) ↔ (0 < size (getD ts (e - 1) []))
-unfolding present
-present-is ts zero h k = absurd (omega arith)
-present-is ts (suc j) h k =
-    let q : suc j - 1 ≡ j = omega arith in
-    let b = bounds 0 ts j (omega arith) in
-    rw q (λ p. omega (arith, ltb-true), λ p. omega (arith, lt-ltb))
+are-cells : (s : List ℕ) (g : ℕ) (ts : List Tag) → All (All Char) ts → drop g s ≡ bytesOf ts → g + rowBytes ts ≡ length s → areCells s g (cellStarts g ts) (map size ts) ≡ true
+unfolding areCells isCell cellStarts bytesOf rowBytes
+are-cells s g [] a e h = eq-eqb g (length s) (omega arith)
+are-cells s g (t ∷ ts) a e h =
+    let c = ap (take (size t)) e ∙ take-at (encodes t) (bytesOf ts) _ (length-encodes t) in
+    let d = sym (drop-drop (size t) g s) ∙ ap (drop (size t)) e ∙ drop-at (encodes t) (bytesOf ts) _ (length-encodes t) in
+    rw (eq-eqb g g refl, le-leb (g + size t) (length s) (omega arith), c, is-plain t (a .0))
+    (are-cells s (g + size t) ts (a .1) d (omega arith))
 
 -- ---- rows
--- the rows from tag k of ts on, which end at es and list at most n tags
-record RowsAre (n : ℕ) (ts : List Tag) (k : ℕ) (es : List ℕ) (rs : List (List Tag)) : Type 0 where
-  ends : rowEnds k rs ≡ es
-  tags : tagsOf rs ≡ drop k ts
+-- k rows of n cells each
+record RowsAre (n k : ℕ) (ts : List Tag) (rs : List (List Tag)) : Type 0 where
+  cells : cellsOf n rs ≡ ts
   rows : All (Row n) rs
+  many : length rs ≡ k
 
 All-take : {A : Type 0} (P : A → Type 0) (n : ℕ) (l : List A) → All P l → All P (take n l)
 All-take P zero l a = tt
@@ -151,70 +103,21 @@ All-drop P zero l a = a
 All-drop P (suc n) [] a = tt
 All-drop P (suc n) (x ∷ l) a = All-drop P n l (a .1)
 
--- the last tag of the row from k to e
-last-tag : (ts : List Tag) (k e : ℕ) → k < e → getD (take (e - k) (drop k ts)) (e - k - 1) [] ≡ getD ts (e - 1) []
-last-tag ts k e h =
-    let q : k + (e - k - 1) ≡ e - 1 = omega arith in
-    getD-take (e - k) (drop k ts) (e - k - 1) [] (omega arith) ∙ rw (getD-drop, q)
+row-is : (n : ℕ) (ts : List Tag) → All (All Char) ts → length ts ≡ n → Row n (cut ts)
+row-is n ts a e = let c = cut-row 0 ts a in record { chars = c .chars; is-cut = c .is-cut; fits = omega (arith, c .fits) }
 
--- a row ends in a present tag if it is cut
-module _ (ts : List Tag) (k e : ℕ) (h : k ≤ e) (l : e ≤ length ts) where
-  row-cut : ((eqb e k || present (tagEnds 0 ts) e) ≡ true) ↔ (cut (take (e - k) (drop k ts)) ≡ take (e - k) (drop k ts))
-  unfolding cut
-  row-cut = on (eqb e k) refl
-    where
-      on : (b : Bool) → eqb e k ≡ b → ((eqb e k || present (tagEnds 0 ts) e) ≡ true) ↔ (cut (take (e - k) (drop k ts)) ≡ take (e - k) (drop k ts))
-      on true q = let z : e - k ≡ 0 = omega (arith, eqb-true) in (λ p. rw z, λ p. rw q)
-      on false q =
-          let o = eqb-false e k q in
-          let i : k < e = omega arith in
-          let m : length (take (e - k) (drop k ts)) ≡ suc (e - k - 1) = omega (arith, length-cut ts k e h l) in
-          let t = present-is ts e (omega arith) l in (
-            λ p. cut-in _ (e - k - 1) m (rw (last-tag ts k e i) (t .0 (rw q at p))),
-            λ p. rw q (t .1 (rw (last-tag ts k e i) at (cut-out _ (e - k - 1) m p))),
-          )
-
-row-is : (n : ℕ) (ts : List Tag) (k e : ℕ) → All (All Char) ts → k ≤ e → e ≤ length ts → e - k ≤ n → (eqb e k || present (tagEnds 0 ts) e) ≡ true → Row n (take (e - k) (drop k ts))
-row-is n ts k e a h l f p =
-    record { chars = All-take (All Char) (e - k) _ (All-drop (All Char) k ts a); is-cut = row-cut ts k e h l .0 p; fits = omega (arith, length-cut ts k e h l) }
-
-rows-more : (n : ℕ) (ts : List Tag) (k e : ℕ) (es : List ℕ) (rs : List (List Tag)) → k ≤ e → e ≤ length ts → Row n (take (e - k) (drop k ts)) → RowsAre n ts e es rs
-    → RowsAre n ts k (e ∷ es) (take (e - k) (drop k ts) ∷ rs)
-unfolding rowEnds tagsOf
-rows-more n ts k e es rs h l r a =
-    let z : k + length (take (e - k) (drop k ts)) ≡ e = omega (arith, length-cut ts k e h l) in
-    record { ends = rw (z, a .ends); tags = rw (a .tags) (cut-at ts k e h); rows = (r, a .rows) }
-
-rows-none : (n : ℕ) (ts : List Tag) (k : ℕ) → k ≡ length ts → RowsAre n ts k [] []
-unfolding rowEnds tagsOf
-rows-none n ts k e = record { ends = refl; tags = sym (rw e (drop-length ts)); rows = tt }
-
-rows-of : (n : ℕ) (ts : List Tag) (k : ℕ) (es : List ℕ) → All (All Char) ts → k ≤ length ts → areRows n (tagEnds 0 ts) k es ≡ true → RowsAre n ts k es (pieces k es (drop k ts))
-unfolding chain isRow pieces
-rows-of n ts k [] a h e = rows-none n ts k (eqb-true k _ e ∙ length-tagEnds 0 ts)
-rows-of n ts k (e ∷ es) a h t =
-    let ((((p, q), f), c), rest) = simp and-eq-true-iff at t in
-    let u = leb-true k e p in
-    let v : e ≤ length ts = omega (arith, leb-true e _ q, length-tagEnds 0 ts) in
-    rw (drop-to ts k e u)
-    (rows-more n ts k e es _ u v (row-is n ts k e a u v (leb-true (e - k) n f) c) (rows-of n ts e es a v rest))
-
-are-rows : (n : ℕ) (ts : List Tag) (k : ℕ) (rs : List (List Tag)) → All (Row n) rs → drop k ts ≡ tagsOf rs → k + listed rs ≡ length ts → areRows n (tagEnds 0 ts) k (rowEnds k rs) ≡ true
-unfolding chain isRow rowEnds tagsOf listed
-are-rows n ts k [] a e h = eq-eqb k _ (omega (arith, length-tagEnds 0 ts))
-are-rows n ts k (r ∷ rs) a e h =
-    let z : length r ≡ k + length r - k = omega arith in
-    let u : k ≤ k + length r = omega arith in
-    let v : k + length r ≤ length ts = omega arith in
-    let c = ap (take (k + length r - k)) e ∙ take-at r (tagsOf rs) _ z in
-    let d = sym (drop-to ts k (k + length r) u) ∙ ap (drop (k + length r - k)) e ∙ drop-at r (tagsOf rs) _ z in
-    rw (
-      le-leb k (k + length r) u,
-      le-leb (k + length r) (length (tagEnds 0 ts)) (omega (arith, length-tagEnds 0 ts)),
-      le-leb (k + length r - k) n (omega (arith, a .0 .fits)),
-      row-cut ts k (k + length r) u v .1 (rw c (a .0 .is-cut)),
-    )
-    (are-rows n ts (k + length r) rs (a .1) d (omega arith))
+rows-of : (n k : ℕ) (ts : List Tag) → All (All Char) ts → length ts ≡ k * n → RowsAre n k ts (rowsBy n k ts)
+unfolding cellsOf rowsBy
+rows-of n zero [] a e = record { cells = refl; rows = tt; many = refl }
+rows-of n zero (t ∷ ts) a e = absurd (omega arith)
+rows-of n (suc k) ts a e =
+    let f : length (take n ts) ≡ n = length-take-le n ts (omega arith) in
+    let r = rows-of n k (drop n ts) (All-drop (All Char) n ts a) (omega (arith, length-drop n ts)) in
+    record {
+      cells = rw (pad-whole n (take n ts) f, r .cells) (take-append-drop n ts);
+      rows = (row-is n (take n ts) (All-take (All Char) n ts a) f, r .rows);
+      many = omega (arith, r .many);
+    }
 
 -- ---- the cells that characters, boundaries and rows make
 record Linked (n : ℕ) (cs : List ℕ) (ms : List Mark) (rs : List (List Tag)) (x : Cells) : Type 0 where
@@ -245,8 +148,8 @@ linked n (c ∷ d ∷ cs) (m ∷ ms) (r ∷ rs) e f a b =
 pub record Limits (r : Record) : Type 0 where
   pub few-bytes : r .b ≤ 4096
   pub few-columns : r .columns ≤ 4096
-  pub few-tags : r .k ≤ 65535
   pub few-tag-bytes : r .g ≤ 65535
+  pub cells-are : r .cells ≡ r .n * r .columns
 
 pub limits-are : (r : Record) → inLimits r ≡ true → Limits r
 unfolding inLimits
@@ -264,10 +167,11 @@ module _ (r : Record) (d : Buffers) (s : Sentence) (h : Holds r d s) where
       let f = h .formed in
       rw (
         le-leb 1 (r .n) (omega (arith, n-held h, length-marks (s .cells))),
+        le-leb (r .n) (r .b) (omega (arith, n-held h, b-held h, some-bytes (text s))),
         le-leb (r .b) 4096 (omega (arith, b-held h, f .text-fits)),
         le-leb (r .columns) 4096 (omega (arith, columns-held h, f .columns-fit)),
-        le-leb (r .k) 65535 (omega (arith, k-held h, f .tags-fit)),
         le-leb (r .g) 65535 (omega (arith, g-held h, f .bytes-fit)),
+        eq-eqb (r .cells) (r .n * r .columns) (rw (n-held h, columns-held h) (cells-held h)),
       )
 
   room-holds : roomFor r d ≡ true
@@ -279,8 +183,8 @@ module _ (r : Record) (d : Buffers) (s : Sentence) (h : Holds r d s) where
         le-leb (r .n - 1) (length (d .boundaries-buf)) (boundaries-held h .fits),
         le-leb (r .n + 1) (length (d .char-pos-buf)) (char-pos-held h .fits),
         le-leb (r .b + 1) (length (d .byte-pos-buf)) (byte-pos-held h .fits),
-        le-leb (r .n) (length (d .row-ends-buf)) (row-ends-held h .fits),
-        le-leb (r .k) (length (d .tag-ends-buf)) (tag-ends-held h .fits),
+        le-leb (r .cells) (length (d .cell-starts-buf)) (cell-starts-held h .fits),
+        le-leb (r .cells) (length (d .cell-lengths-buf)) (cell-lengths-held h .fits),
         le-leb (r .g) (length (d .tag-bytes-buf)) (tag-bytes-held h .fits),
       )
 
@@ -300,20 +204,16 @@ module _ (r : Record) (d : Buffers) (s : Sentence) (h : Holds r d s) where
         same-self (bytePositions (text s)),
       )
 
-  tags-hold : areTags (take (r .g) (d .tag-bytes-buf)) 0 (take (r .k) (d .tag-ends-buf)) ≡ true
-  tags-hold =
-      let ts = tagsOf (rows s) in
-      rw (tag-bytes-held h .is, tag-ends-held h .is) (are-tags (bytesOf ts) 0 ts (tags-chars-held h) refl (omega (arith, length-bytesOf ts)))
-
-  rows-hold : areRows (r .columns) (take (r .k) (d .tag-ends-buf)) 0 (take (r .n) (d .row-ends-buf)) ≡ true
-  rows-hold =
-      let ts = tagsOf (rows s) in
-      rw (tag-ends-held h .is, row-ends-held h .is, columns-held h)
-      (are-rows (s .columns) ts 0 (rows s) (rows-held h) refl (omega (arith, length-tagsOf (rows s))))
+  cells-hold : areCells (take (r .g) (d .tag-bytes-buf)) 0 (take (r .cells) (d .cell-starts-buf)) (take (r .cells) (d .cell-lengths-buf)) ≡ true
+  cells-hold =
+      let ts = cellsOf (s .columns) (rows s) in
+      let e = bytes-same (s .columns) (rows s) in
+      rw (tag-bytes-held h .is, ← e, cell-starts-held h .is, cell-lengths-held h .is)
+      (are-cells (bytesOf ts) 0 ts (cells-chars-held h) refl (omega (arith, length-bytesOf ts)))
 
   pub holds-is : isSheet r d ≡ true
   unfolding isSheet isLaid
-  holds-is = rw (limits-hold, room-holds, text-holds, boundaries-held h .is, are-marks (marks s), tags-hold, rows-hold)
+  holds-is = rw (limits-hold, room-holds, text-holds, boundaries-held h .is, are-marks (marks s), cells-hold)
 
 -- where the test is false, no sentence is held
 pub no-sheet : (r : Record) (d : Buffers) → isSheet r d ≡ false → (s : Sentence) → Holds r d s → ⊥
@@ -323,14 +223,14 @@ no-sheet r d e s h = true≢false (sym (holds-is r d s h) ∙ e)
 at-front : (part d : List ℕ) (n : ℕ) → n ≤ length d → part ≡ take n d → Front part d
 at-front part d n h e = let z : length part ≡ n = omega (arith, ap length e, length-take n d) in rw z (sym e)
 
--- characters, boundaries, tags and rows that are in the buffers
+-- characters, boundaries, cells and rows that are in the buffers
 record In (r : Record) (d : Buffers) (cs : List ℕ) (ms : List Mark) (ts : List Tag) (rs : List (List Tag)) : Type 0 where
   limits : Limits r
   room : Room r d
   text : TextIs (take (r .b) (d .text-buf)) (take (r .n) (d .types-buf)) (take (r .n + 1) (d .char-pos-buf)) (take (r .b + 1) (d .byte-pos-buf)) cs
   marks-are : map code ms ≡ take (r .n - 1) (d .boundaries-buf)
-  tags : TagsAre (take (r .g) (d .tag-bytes-buf)) 0 (take (r .k) (d .tag-ends-buf)) ts
-  rows-are : RowsAre (r .columns) ts 0 (take (r .n) (d .row-ends-buf)) rs
+  cells : CellsAre (take (r .g) (d .tag-bytes-buf)) 0 (take (r .cells) (d .cell-starts-buf)) (take (r .cells) (d .cell-lengths-buf)) ts
+  rows-are : RowsAre (r .columns) (r .n) ts rs
 
 module _ (r : Record) (d : Buffers) (cs : List ℕ) (ms : List Mark) (ts : List Tag) (rs : List (List Tag)) (h : In r d cs ms ts rs) where
   how-many : length cs ≡ r .n
@@ -339,41 +239,21 @@ module _ (r : Record) (d : Buffers) (cs : List ℕ) (ms : List Mark) (ts : List 
   how-many-marks : length ms ≡ r .n - 1
   how-many-marks = omega (arith, ap length (h .marks-are), length-map ms code, length-take (r .n - 1) (d .boundaries-buf), h .room .boundaries-room)
 
-  how-many-rows : length rs ≡ r .n
-  how-many-rows = omega (arith, ap length (h .rows-are .ends), length-rowEnds 0 rs, length-take (r .n) (d .row-ends-buf), h .room .row-ends-room)
-
   how-many-bytes : size cs ≡ r .b
   how-many-bytes = omega (arith, length-encodes cs, ap length (h .text .bytes), length-take (r .b) (d .text-buf), h .room .text-room)
 
-  how-many-tags : listed rs ≡ r .k
-  how-many-tags =
-      omega (
-        arith,
-        length-tagsOf rs,
-        ap length (h .rows-are .tags),
-        length-tagEnds 0 ts,
-        ap length (h .tags .ends),
-        length-take (r .k) (d .tag-ends-buf),
-        h .room .tag-ends-room,
-      )
+  bytes-are : bytesOf (tagsOf rs) ≡ take (r .g) (d .tag-bytes-buf)
+  bytes-are = sym (bytes-same (r .columns) rs) ∙ rw (h .rows-are .cells) (h .cells .bytes)
 
   how-many-tag-bytes : tagBytes rs ≡ r .g
   how-many-tag-bytes =
-      omega (
-        arith,
-        bytes-tagsOf rs,
-        ap rowBytes (h .rows-are .tags),
-        length-bytesOf ts,
-        ap length (h .tags .bytes),
-        length-take (r .g) (d .tag-bytes-buf),
-        h .room .tag-bytes-room,
-      )
+      omega (arith, length-bytesOf (tagsOf rs), bytes-tagsOf rs, ap length bytes-are, length-take (r .g) (d .tag-bytes-buf), h .room .tag-bytes-room)
 
   are-linked : Linked (r .columns) cs ms rs (link cs ms rs)
   are-linked =
       linked (r .columns) cs ms rs
       (omega (arith, how-many, how-many-marks, h .room .some))
-      (omega (arith, how-many, how-many-rows))
+      (omega (arith, how-many, h .rows-are .many))
       (h .text .chars)
       (h .rows-are .rows)
 
@@ -385,8 +265,8 @@ module _ (r : Record) (d : Buffers) (cs : List ℕ) (ms : List Mark) (ts : List 
     b-is : r .b ≡ size (textOf x)
     b-is = rw (k .text-is) (sym how-many-bytes)
 
-    k-is : r .k ≡ listed (rowsOf x)
-    k-is = rw (k .rows-is) (sym how-many-tags)
+    cells-is : r .cells ≡ length (textOf x) * r .columns
+    cells-is = rw (← n-is) (h .limits .cells-are)
 
     g-is : r .g ≡ tagBytes (rowsOf x)
     g-is = rw (k .rows-is) (sym how-many-tag-bytes)
@@ -397,7 +277,6 @@ module _ (r : Record) (d : Buffers) (cs : List ℕ) (ms : List Mark) (ts : List 
           cells-are = k .cells-are;
           text-fits = omega (arith, b-is, h .limits);
           columns-fit = h .limits .few-columns;
-          tags-fit = omega (arith, k-is, h .limits);
           bytes-fit = omega (arith, g-is, h .limits);
         }
 
@@ -406,30 +285,35 @@ module _ (r : Record) (d : Buffers) (cs : List ℕ) (ms : List Mark) (ts : List 
     made =
         record {
           formed = well-formed;
-          record-is = λ i. record { n = n-is i; b = b-is i; columns = r .columns; k = k-is i; g = g-is i };
+          record-is = λ i. record { n = n-is i; b = b-is i; columns = r .columns; cells = cells-is i; g = g-is i };
           text-at = at-front _ _ (r .b) (h .room .text-room) (rw (k .text-is) (h .text .bytes));
           types-at = at-front _ _ (r .n) (h .room .types-room) (rw (k .text-is) (h .text .types-are));
           boundaries-at = at-front _ _ (r .n - 1) (h .room .boundaries-room) (rw (k .marks-is) (h .marks-are));
           char-pos-at = at-front _ _ (r .n + 1) (h .room .char-pos-room) (rw (k .text-is) (h .text .starts-are));
           byte-pos-at = at-front _ _ (r .b + 1) (h .room .byte-pos-room) (rw (k .text-is) (h .text .numbers-are));
-          row-ends-at = at-front _ _ (r .n) (h .room .row-ends-room) (rw (k .rows-is) (h .rows-are .ends));
-          tag-ends-at = at-front _ _ (r .k) (h .room .tag-ends-room) (rw (k .rows-is, h .rows-are .tags) (h .tags .ends));
-          tag-bytes-at = at-front _ _ (r .g) (h .room .tag-bytes-room) (rw (k .rows-is, h .rows-are .tags) (h .tags .bytes));
+          cell-starts-at = at-front _ _ (r .cells) (h .room .cell-starts-room) (rw (k .rows-is, h .rows-are .cells) (h .cells .starts));
+          cell-lengths-at = at-front _ _ (r .cells) (h .room .cell-lengths-room) (rw (k .rows-is, h .rows-are .cells) (h .cells .lengths));
+          tag-bytes-at = at-front _ _ (r .g) (h .room .tag-bytes-room) (rw (k .rows-is) bytes-are);
         }
+
+how-many-cells : (r : Record) (d : Buffers) (ts : List Tag) → Limits r → Room r d → cellStarts 0 ts ≡ take (r .cells) (d .cell-starts-buf) → length ts ≡ r .n * r .columns
+how-many-cells r d ts l m e = omega (arith, length-cellStarts 0 ts, ap length e, length-take (r .cells) (d .cell-starts-buf), m .cell-starts-room, l .cells-are)
 
 -- where the test is true, the buffers hold what they spell
 pub is-sheet : (r : Record) (d : Buffers) → isSheet r d ≡ true → Sheet r d
 unfolding isSheet isLaid spell
 is-sheet r d e =
-    let ((l, m), (((t, b), g), w)) = simp and-eq-true-iff at e in
-    let tags = rw (take-append-drop (r .g) (d .tag-bytes-buf)) at (tags-are _ (drop (r .g) (d .tag-bytes-buf)) 0 _ (omega arith) g) in
+    let ((l, m), ((t, b), g)) = simp and-eq-true-iff at e in
+    let z = limits-are r l in
+    let o = room-is r d l m in
+    let c = rw (take-append-drop (r .g) (d .tag-bytes-buf)) at (cells-are _ (drop (r .g) (d .tag-bytes-buf)) 0 _ _ g) in
     let i : In r d _ _ _ _ =
     record {
-      limits = limits-are r l;
-      room = room-is r d l m;
+      limits = z;
+      room = o;
       text = text-is _ _ _ _ t;
       marks-are = marks-are _ b;
-      tags = tags;
-      rows-are = rows-of (r .columns) _ 0 _ (tags .chars) (omega arith) (rw (tags .ends) w);
+      cells = c;
+      rows-are = rows-of (r .columns) (r .n) _ (c .chars) (how-many-cells r d _ z o (c .starts));
     } in
     made r d _ _ _ _ i _ (are-linked r d _ _ _ _ i)

@@ -1,19 +1,20 @@
 -- What is laid is held, and what is held is what is spelled: a record and buffers hold at most one sentence. Assumes nothing.
-use Prim.Native.Nat.{ℕ, _+_, _-_, _≤_}
+use Prim.Native.Nat.{ℕ, zero, suc, _+_, _-_, _*_, _≤_}
 use mathlib.Core.Path.{_≡_, refl, sym, ap, _∙_}
 use mathlib.Core.Bool.{true}
-use mathlib.Core.List.{List, [], _∷_, _++_, map, append-assoc}
+use mathlib.Core.List.{List, [], _∷_, _++_, map, append-assoc, append-nil}
 use native.Mathlib.Omega.{arith}
-use lib.ListN.{length, take, length-append, length-map, length-take, take-append-drop}
+use lib.ListN.{length, take, replicate, length-append, length-map, length-take, take-append-drop}
 use lib.Seq.{take-append-seam, take-at, drop-at}
 use Rattle.laws.specs.All.{All, All-append, All-imp}
 use Rattle.utf8.specs.Utf8.{scalars, encodes, size}
-use Rattle.utf8.proofs.Codec.{length-encodes, scalars-encodes}
+use Rattle.utf8.proofs.Codec.{length-encodes, scalars-encodes, width-small}
 use Rattle.types.specs.TypeOf.{typeOf}
-use Rattle.sentence.specs.Sentence.{Tag, Mark, none, word, unknown, code, Cells, final, cell, Sentence, textOf, marksOf, rowsOf, text, marks, rows, types, starts, charPositions, bytePositions, listed, rowBytes, tagBytes, Char, Row, CellsOf, Formed}
+use Rattle.sentence.specs.Sentence.{Tag, Mark, none, word, unknown, code, Cells, final, cell, Sentence, textOf, marksOf, rowsOf, text, marks, rows, types, starts, charPositions, bytePositions, pad, rowBytes, tagBytes, Char, Row, CellsOf, Formed}
+use Rattle.sentence.proofs.Trips.{all-absent, cut-pad, pad-length}
 pub use Rattle.parts.proofs.Says.{length-starts, length-numbers}
 use Rattle.sheet.specs.declared.Record.{Record}
-use Rattle.sheet.specs.Layout.{Buffers, recordOf, tagsOf, rowEnds, tagEnds, bytesOf, lay, laid, roomFor, Front, Holds, pieces, markOf, link, spell}
+use Rattle.sheet.specs.Layout.{Buffers, recordOf, tagsOf, cellsOf, cellStarts, bytesOf, lay, laid, roomFor, Front, Holds, slices, rowsBy, markOf, link, spell}
 
 pub laid-holds : (s : Sentence) (d : Buffers) → Formed s → roomFor (recordOf s) d ≡ true → Holds (recordOf s) (laid s d) s
 unfolding laid
@@ -26,8 +27,8 @@ laid-holds s d f h =
       boundaries-at = take-append-seam _ _;
       char-pos-at = take-append-seam _ _;
       byte-pos-at = take-append-seam _ _;
-      row-ends-at = take-append-seam _ _;
-      tag-ends-at = take-append-seam _ _;
+      cell-starts-at = take-append-seam _ _;
+      cell-lengths-at = take-append-seam _ _;
       tag-bytes-at = take-append-seam _ _;
     }
 
@@ -42,27 +43,22 @@ unfolding textOf rowsOf
 length-rows (final c r) = refl
 length-rows (cell c r m s) = omega (arith, length-rows s)
 
-pub length-rowEnds : (k : ℕ) (rs : List (List Tag)) → length (rowEnds k rs) ≡ length rs
-unfolding rowEnds
-length-rowEnds k [] = refl
-length-rowEnds k (r ∷ rs) = omega (arith, length-rowEnds (k + length r) rs)
+pub length-cellStarts : (g : ℕ) (ts : List Tag) → length (cellStarts g ts) ≡ length ts
+unfolding cellStarts
+length-cellStarts g [] = refl
+length-cellStarts g (t ∷ ts) = omega (arith, length-cellStarts (g + size t) ts)
 
-pub length-tagEnds : (g : ℕ) (ts : List Tag) → length (tagEnds g ts) ≡ length ts
-unfolding tagEnds
-length-tagEnds g [] = refl
-length-tagEnds g (t ∷ ts) = omega (arith, length-tagEnds (g + size t) ts)
-
-pub length-tagsOf : (rs : List (List Tag)) → length (tagsOf rs) ≡ listed rs
-unfolding tagsOf listed
-length-tagsOf [] = refl
-length-tagsOf (r ∷ rs) = rw length-append (omega (arith, length-tagsOf rs))
+pub length-cellsOf : (n : ℕ) (rs : List (List Tag)) → All (Row n) rs → length (cellsOf n rs) ≡ length rs * n
+unfolding cellsOf
+length-cellsOf n [] h = omega arith
+length-cellsOf n (r ∷ rs) h = rw length-append (omega (arith, pad-length n r (h .0 .fits), length-cellsOf n rs (h .1)))
 
 pub length-bytesOf : (ts : List Tag) → length (bytesOf ts) ≡ rowBytes ts
 unfolding bytesOf rowBytes
 length-bytesOf [] = refl
 length-bytesOf (t ∷ ts) = rw length-append (omega (arith, length-encodes t, length-bytesOf ts))
 
-rowBytes-append : (ts us : List Tag) → rowBytes (ts ++ us) ≡ rowBytes ts + rowBytes us
+pub rowBytes-append : (ts us : List Tag) → rowBytes (ts ++ us) ≡ rowBytes ts + rowBytes us
 unfolding rowBytes
 rowBytes-append [] us = omega arith
 rowBytes-append (t ∷ ts) us = omega (arith, rowBytes-append ts us)
@@ -72,6 +68,12 @@ unfolding tagsOf rowBytes tagBytes
 bytes-tagsOf [] = refl
 bytes-tagsOf (r ∷ rs) = omega (arith, rowBytes-append r (tagsOf rs), bytes-tagsOf rs)
 
+-- a character has at least a byte
+pub some-bytes : (cs : List ℕ) → length cs ≤ size cs
+unfolding size
+some-bytes [] = omega arith
+some-bytes (c ∷ cs) = omega (arith, some-bytes cs, width-small c)
+
 -- ---- each part gives back what it was made of
 pub marks-back : (ms : List Mark) → map markOf (map code ms) ≡ ms
 unfolding markOf code
@@ -80,21 +82,21 @@ marks-back (none ∷ ms) = rw (marks-back ms)
 marks-back (word ∷ ms) = rw (marks-back ms)
 marks-back (unknown ∷ ms) = rw (marks-back ms)
 
-rows-back : (k : ℕ) (rs : List (List Tag)) → pieces k (rowEnds k rs) (tagsOf rs) ≡ rs
-unfolding rowEnds tagsOf pieces
-rows-back k [] = refl
-rows-back k (r ∷ rs) =
-    let e : length r ≡ k + length r - k = omega arith in
-    rw (take-at r (tagsOf rs) _ e, drop-at r (tagsOf rs) _ e, rows-back (k + length r) rs)
+rows-back : (n : ℕ) (rs : List (List Tag)) → All (Row n) rs → rowsBy n (length rs) (cellsOf n rs) ≡ rs
+unfolding cellsOf rowsBy
+rows-back n [] h = refl
+rows-back n (r ∷ rs) h =
+    let e = pad-length n r (h .0 .fits) in
+    rw (take-at (pad n r) (cellsOf n rs) n e, drop-at (pad n r) (cellsOf n rs) n e, rows-back n rs (h .1), cut-pad n r, h .0 .is-cut)
 
-tags-back : (g : ℕ) (ts : List Tag) (x : List ℕ) → All (All Char) ts → map scalars (pieces g (tagEnds g ts) (bytesOf ts ++ x)) ≡ ts
-unfolding tagEnds bytesOf pieces
-tags-back g [] x h = refl
-tags-back g (t ∷ ts) x h =
-    let e : length (encodes t) ≡ g + size t - g = omega (arith, length-encodes t) in
-    rw (append-assoc, take-at (encodes t) (bytesOf ts ++ x) _ e, drop-at (encodes t) (bytesOf ts ++ x) _ e, tags-back (g + size t) ts x (h .1), scalars-encodes t (All-imp Char _ (λ c p. p .is-scalar) t (h .0)))
+slices-back : (ts : List Tag) (x : List ℕ) → All (All Char) ts → map scalars (slices (map size ts) (bytesOf ts ++ x)) ≡ ts
+unfolding slices bytesOf
+slices-back [] x h = refl
+slices-back (t ∷ ts) x h =
+    let e = length-encodes t in
+    rw (append-assoc, take-at (encodes t) (bytesOf ts ++ x) _ e, drop-at (encodes t) (bytesOf ts ++ x) _ e, slices-back ts x (h .1), scalars-encodes t (All-imp Char _ (λ c p. p .is-scalar) t (h .0)))
 
-cells-back : (s : Cells) → link (textOf s) (marksOf s) (rowsOf s) ≡ s
+pub cells-back : (s : Cells) → link (textOf s) (marksOf s) (rowsOf s) ≡ s
 unfolding link textOf marksOf rowsOf
 cells-back (final c r) = refl
 cells-back (cell c r m (final d q)) = refl
@@ -111,10 +113,36 @@ unfolding rowsOf
 rows-are n (final c r) h = (h .1, tt)
 rows-are n (cell c r m s) h = (h .1, rows-are n s (h .2))
 
-pub tags-chars : (n : ℕ) (rs : List (List Tag)) → All (Row n) rs → All (All Char) (tagsOf rs)
-unfolding tagsOf
-tags-chars n [] h = tt
-tags-chars n (r ∷ rs) h = All-append (All Char) r (tagsOf rs) (h .0 .chars) (tags-chars n rs (h .1))
+pub cells-chars : (n : ℕ) (rs : List (List Tag)) → All (Row n) rs → All (All Char) (cellsOf n rs)
+unfolding cellsOf pad
+cells-chars n [] h = tt
+cells-chars n (r ∷ rs) h =
+    All-append (All Char) (pad n r) (cellsOf n rs)
+    (All-append (All Char) r (replicate (n - length r) []) (h .0 .chars) (all-absent (n - length r)))
+    (cells-chars n rs (h .1))
+
+-- ---- the tag bytes are those of the listed tags
+pub bytes-joined : (us vs : List Tag) → bytesOf (us ++ vs) ≡ bytesOf us ++ bytesOf vs
+unfolding bytesOf
+bytes-joined [] vs = refl
+bytes-joined (u ∷ us) vs = rw (bytes-joined us vs, append-assoc)
+
+bytes-absent : (k : ℕ) → bytesOf (replicate k []) ≡ []
+unfolding bytesOf encodes
+bytes-absent zero = refl
+bytes-absent (suc k) = bytes-absent k
+
+pub bytes-pad : (n : ℕ) (r : List Tag) → bytesOf (pad n r) ≡ bytesOf r
+unfolding pad
+bytes-pad n r = rw (bytes-joined r (replicate (n - length r) []), bytes-absent (n - length r), append-nil)
+
+pub bytes-same : (n : ℕ) (rs : List (List Tag)) → bytesOf (cellsOf n rs) ≡ bytesOf (tagsOf rs)
+unfolding cellsOf tagsOf
+bytes-same n [] = refl
+bytes-same n (r ∷ rs) = rw (bytes-joined (pad n r) (cellsOf n rs), bytes-pad n r, bytes-same n rs) (sym (bytes-joined r (tagsOf rs)))
+
+pub cells-bytes : (n : ℕ) (rs : List (List Tag)) → rowBytes (cellsOf n rs) ≡ tagBytes rs
+cells-bytes n rs = omega (arith, length-bytesOf (cellsOf n rs), ap length (bytes-same n rs), length-bytesOf (tagsOf rs), bytes-tagsOf rs)
 
 -- ---- what the record and each buffer have where a sentence is held
 -- a buffer starts with a part of n elements
@@ -138,9 +166,9 @@ module _ {r : Record} {d : Buffers} {s : Sentence} (h : Holds r d s) where
   unfolding recordOf
   columns-held = rw (h .record-is)
 
-  pub k-held : r .k ≡ listed (rows s)
+  pub cells-held : r .cells ≡ length (text s) * s .columns
   unfolding recordOf
-  k-held = rw (h .record-is)
+  cells-held = rw (h .record-is)
 
   pub g-held : r .g ≡ tagBytes (rows s)
   unfolding recordOf
@@ -168,14 +196,6 @@ module _ {r : Record} {d : Buffers} {s : Sentence} (h : Holds r d s) where
   unfolding lay
   byte-pos-held = part _ _ _ _ (rw b-held) (length-numbers 0 (text s)) (h .byte-pos-at)
 
-  pub row-ends-held : Part (r .n) (rowEnds 0 (rows s)) (d .row-ends-buf)
-  unfolding lay
-  row-ends-held = part _ _ _ _ n-held (length-rowEnds 0 (rows s) ∙ length-rows (s .cells)) (h .row-ends-at)
-
-  pub tag-ends-held : Part (r .k) (tagEnds 0 (tagsOf (rows s))) (d .tag-ends-buf)
-  unfolding lay
-  tag-ends-held = part _ _ _ _ k-held (length-tagEnds 0 (tagsOf (rows s)) ∙ length-tagsOf (rows s)) (h .tag-ends-at)
-
   pub tag-bytes-held : Part (r .g) (bytesOf (tagsOf (rows s))) (d .tag-bytes-buf)
   unfolding lay
   tag-bytes-held = part _ _ _ _ g-held (length-bytesOf (tagsOf (rows s)) ∙ bytes-tagsOf (rows s)) (h .tag-bytes-at)
@@ -186,13 +206,28 @@ module _ {r : Record} {d : Buffers} {s : Sentence} (h : Holds r d s) where
   pub rows-held : All (Row (s .columns)) (rows s)
   rows-held = rows-are (s .columns) (s .cells) (h .formed .cells-are)
 
-  pub tags-chars-held : All (All Char) (tagsOf (rows s))
-  tags-chars-held = tags-chars (s .columns) (rows s) rows-held
+  pub cells-chars-held : All (All Char) (cellsOf (s .columns) (rows s))
+  cells-chars-held = cells-chars (s .columns) (rows s) rows-held
 
-  tags-held : map scalars (pieces 0 (take (r .k) (d .tag-ends-buf)) (d .tag-bytes-buf)) ≡ tagsOf (rows s)
-  tags-held =
-      rw (tag-ends-held .is, ← (take-append-drop (r .g) (d .tag-bytes-buf)), tag-bytes-held .is)
-      (tags-back 0 (tagsOf (rows s)) _ tags-chars-held)
+  pub cells-long : length (cellsOf (s .columns) (rows s)) ≡ r .cells
+  cells-long = length-cellsOf (s .columns) (rows s) rows-held ∙ rw (length-rows (s .cells)) (sym cells-held)
+
+  pub cell-starts-held : Part (r .cells) (cellStarts 0 (cellsOf (s .columns) (rows s))) (d .cell-starts-buf)
+  unfolding lay
+  cell-starts-held = part _ _ _ _ refl (length-cellStarts 0 (cellsOf (s .columns) (rows s)) ∙ cells-long) (h .cell-starts-at)
+
+  pub cell-lengths-held : Part (r .cells) (map size (cellsOf (s .columns) (rows s))) (d .cell-lengths-buf)
+  unfolding lay
+  cell-lengths-held = part _ _ _ _ refl (length-map (cellsOf (s .columns) (rows s)) size ∙ cells-long) (h .cell-lengths-at)
+
+  slices-held : map scalars (slices (take (r .cells) (d .cell-lengths-buf)) (d .tag-bytes-buf)) ≡ cellsOf (s .columns) (rows s)
+  slices-held =
+      rw (cell-lengths-held .is, ← (take-append-drop (r .g) (d .tag-bytes-buf)), tag-bytes-held .is, ← (bytes-same (s .columns) (rows s)))
+      (slices-back (cellsOf (s .columns) (rows s)) _ cells-chars-held)
+
+  rows-spelled : rowsBy (r .columns) (r .n) (map scalars (slices (take (r .cells) (d .cell-lengths-buf)) (d .tag-bytes-buf))) ≡ rows s
+  rows-spelled =
+      rw (slices-held, columns-held, n-held, ← (length-rows (s .cells))) (rows-back (s .columns) (rows s) rows-held)
 
 pub spelled : (r : Record) (d : Buffers) (s : Sentence) → Holds r d s → spell r d ≡ s
 unfolding spell recordOf
@@ -202,9 +237,7 @@ spelled r d s h =
       scalars-encodes (text s) (All-imp Char _ (λ c p. p .is-scalar) (text s) (text-chars-held h)),
       boundaries-held h .is,
       marks-back (marks s),
-      tags-held h,
-      row-ends-held h .is,
-      rows-back 0 (rows s),
+      rows-spelled h,
       cells-back (s .cells),
       h .record-is,
     )

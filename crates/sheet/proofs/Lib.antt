@@ -1,4 +1,5 @@
 pub mod Held
 pub mod Exact
+pub mod Listed
 pub mod Look
 pub mod Whole

@@ -1,5 +1,6 @@
 -- What buffers that hold a sentence have at an index, for those that go through it character by character and tag by tag. Assumes nothing.
-use Prim.Native.Nat.{ℕ, zero, suc, _+_, _-_, _≤_, _<_}
+use Prim.Native.Nat.{ℕ, zero, suc, _+_, _-_, _*_, _≤_, _<_}
+use native.Mathlib.Nat.{mul-le-mul-right}
 use native.Mathlib.Numerals.{add-one}
 use native.Mathlib.Decide.{decLt}
 use native.Mathlib.Omega.{arith}
@@ -7,23 +8,24 @@ use mathlib.Core.Path.{_≡_, refl, sym, ap, _∙_}
 use mathlib.Core.Bool.{Bool, true, false, not, _||_, false≢true}
 use mathlib.Core.List.{List, [], _∷_, _++_, append-nil, append-assoc}
 use lib.ListN.{length, getD, take, drop, replicate, length-append, length-drop, length-replicate, getD-replicate, take-append-drop, drop-of-length-le, List·getD-append, List·getD-map}
-use lib.Seq.{length-take-le, take-suc, drop-cons, take-add, take-take, take-nil, take-length, take-at, drop-at, take-append-le, drop-append-le, getD-take, getD-drop, getD-append-add}
+use lib.Seq.{length-take-le, take-suc, drop-cons, take-add, take-take, take-nil, take-all, take-length, take-at, drop-at, take-append-le, take-append-add, drop-append-le, getD-take, getD-append-add}
 use borrow.Author.Tests.{not-false}
 use Rattle.laws.specs.If.{if_then_else_}
 use Rattle.laws.specs.All.{All}
 use Rattle.utf8.specs.Utf8.{decodeAt, width, encodes, size}
 use Rattle.utf8.specs.declared.Decoded.the-variants.{Char}
 use Rattle.utf8.proofs.Codec.{length-encodes, encodes-append, size-append, width-small, decode-encode}
-use Rattle.sentence.specs.Sentence.{Tag, Mark, none, word, unknown, code, Sentence, text, marks, rows, starts, numbers, listed, rowBytes, tagBytes, Row}
+use Rattle.sentence.specs.Sentence.{Tag, Mark, none, word, unknown, code, Sentence, text, marks, rows, starts, numbers, pad, rowBytes, tagBytes, Row}
 use Rattle.sentence.specs.Sentence as SC
 use Rattle.sentence.specs.declared.Refusal.{Refusal}
 use Rattle.sentence.specs.Refusals.{refusal, Check, check, verdict, sheetOrder}
 use Rattle.sentence.specs.Writing.{surface}
+use Rattle.sentence.proofs.Trips.{pad-length}
 use Rattle.sheet.specs.declared.Record.{Record}
-use Rattle.sheet.specs.Layout.{Buffers, tagsOf, rowEnds, tagEnds, bytesOf, Holds, Sheet, markOf}
+use Rattle.sheet.specs.Layout.{Buffers, cellsOf, cellStarts, bytesOf, Holds, Sheet, markOf}
 use Rattle.sheet.specs.Check.{isSheet}
 use Rattle.sheet.proofs.Exact.{is-sheet}
-use Rattle.sheet.proofs.Held.{Part, length-marks, length-rows, length-tagsOf, length-bytesOf, bytes-tagsOf, n-held, b-held, columns-held, k-held, g-held, text-held, types-held, boundaries-held, char-pos-held, byte-pos-held, row-ends-held, tag-ends-held, tag-bytes-held, text-chars-held, rows-held}
+use Rattle.sheet.proofs.Held.{Part, length-marks, length-rows, length-bytesOf, rowBytes-append, some-bytes, bytes-joined, bytes-same, cells-bytes, cells-long, n-held, b-held, columns-held, cells-held, g-held, text-held, types-held, boundaries-held, char-pos-held, byte-pos-held, cell-starts-held, cell-lengths-held, tag-bytes-held, text-chars-held, rows-held}
 
 -- ---- a buffer that starts with a part of n elements
 pub part-at : {n : ℕ} {part d : List ℕ} → Part n part d → (i : ℕ) → i < n → getD d i 0 ≡ getD part i 0
@@ -93,29 +95,7 @@ pub bytes-next : (cs : List ℕ) (i : ℕ) → i < length cs → size (take (i +
 unfolding size
 bytes-next cs i h = rw (more 0 cs i h, size-append) (omega arith)
 
-pub some-bytes : (cs : List ℕ) → length cs ≤ size cs
-unfolding size
-some-bytes [] = omega arith
-some-bytes (c ∷ cs) = omega (arith, some-bytes cs, width-small c)
-
--- ---- the listed tags of rows, and the bytes of tags
-tags-joined : (us vs : List (List Tag)) → tagsOf (us ++ vs) ≡ tagsOf us ++ tagsOf vs
-unfolding tagsOf
-tags-joined [] vs = refl
-tags-joined (u ∷ us) vs = rw (tags-joined us vs, append-assoc)
-
-pub bytes-joined : (us vs : List Tag) → bytesOf (us ++ vs) ≡ bytesOf us ++ bytesOf vs
-unfolding bytesOf
-bytes-joined [] vs = refl
-bytes-joined (u ∷ us) vs = rw (bytes-joined us vs, append-assoc)
-
-pub listed-before : (rs : List (List Tag)) (i : ℕ) → listed (take i rs) ≤ listed rs
-listed-before = within tagsOf listed tags-joined length-tagsOf
-
-pub listed-next : (rs : List (List Tag)) (i : ℕ) → i < length rs → listed (take (i + 1) rs) ≡ listed (take i rs) + length (getD rs i [])
-unfolding listed
-listed-next rs i h = rw (more [] rs i h, sum tagsOf listed tags-joined length-tagsOf) (omega arith)
-
+-- ---- the bytes of tags
 pub tag-bytes-before : (ts : List Tag) (j : ℕ) → rowBytes (take j ts) ≤ rowBytes ts
 tag-bytes-before = within bytesOf rowBytes bytes-joined length-bytesOf
 
@@ -123,35 +103,62 @@ pub tag-bytes-next : (ts : List Tag) (j : ℕ) → j < length ts → rowBytes (t
 unfolding rowBytes
 tag-bytes-next ts j h = rw (more [] ts j h, sum bytesOf rowBytes bytes-joined length-bytesOf) (omega arith)
 
--- a row among the listed tags, and a tag of it
-pub row-among : (rs : List (List Tag)) (i : ℕ) → i < length rs
-    → take (length (getD rs i [])) (drop (listed (take i rs)) (tagsOf rs)) ≡ getD rs i []
-unfolding tagsOf
-row-among rs i h =
-    let e : listed (take (i + 1) rs) - listed (take i rs) ≡ length (getD rs i []) = omega (arith, listed-next rs i h) in
-    rw (e, left [] rs i h, append-nil) at (part tagsOf listed tags-joined length-tagsOf rs i 1)
+-- ---- a cell among all: the c-th of the i-th of rows that have n each
+absent-at : (k c : ℕ) → getD (replicate {A = Tag} k []) c [] ≡ []
+absent-at zero c = refl
+absent-at (suc k) zero = refl
+absent-at (suc k) (suc c) = absent-at k c
 
-pub tag-among : (rs : List (List Tag)) (i c : ℕ) → i < length rs → c < length (getD rs i []) → getD (tagsOf rs) (listed (take i rs) + c) [] ≡ getD (getD rs i []) c []
-tag-among rs i c h k =
-    sym (getD-drop (listed (take i rs)) (tagsOf rs) c [])
-    ∙ sym (getD-take (length (getD rs i [])) (drop (listed (take i rs)) (tagsOf rs)) c [] k)
-    ∙ ap (λ (l : List Tag). getD l c []) (row-among rs i h)
+padded-at : (r : List Tag) (k c : ℕ) → getD (r ++ replicate k []) c [] ≡ getD r c []
+padded-at [] k c = absent-at k c
+padded-at (t ∷ r) k zero = refl
+padded-at (t ∷ r) k (suc c) = padded-at r k c
 
--- the bytes of the tags before the c-th of the i-th row: those of the rows before, and those before it in its row
-pub bytes-among : (rs : List (List Tag)) (i c : ℕ) → i < length rs → c ≤ length (getD rs i [])
-    → rowBytes (take (listed (take i rs) + c) (tagsOf rs)) ≡ tagBytes (take i rs) + rowBytes (take c (getD rs i []))
-bytes-among rs i c h k =
-    let e = row-among rs i h in
-    let f : take c (drop (listed (take i rs)) (tagsOf rs)) ≡ take c (getD rs i []) = rw e at (sym (take-take c (length (getD rs i [])) (drop (listed (take i rs)) (tagsOf rs)) k)) in
-    rw (
-      take-add (listed (take i rs)) c (tagsOf rs),
-      before tagsOf listed tags-joined length-tagsOf rs i,
-      f,
-      sum bytesOf rowBytes bytes-joined length-bytesOf (tagsOf (take i rs)) (take c (getD rs i [])),
-      bytes-tagsOf (take i rs),
-    )
+pub pad-at : (n : ℕ) (r : List Tag) (c : ℕ) → getD (pad n r) c [] ≡ getD r c []
+unfolding pad
+pad-at n r c = padded-at r (n - length r) c
 
--- ---- the four lists of positions and ends
+module _ (n : ℕ) where
+  -- the cells past those of the first row
+  past : (r : List Tag) (i c : ℕ) → length r ≤ n → suc i * n + c ≡ length (pad n r) + (i * n + c)
+  past r i c h = omega (arith, pad-length n r h)
+
+  pub cell-among : (rs : List (List Tag)) (i c : ℕ) → All (Row n) rs → i < length rs → c < n → getD (cellsOf n rs) (i * n + c) [] ≡ getD (getD rs i []) c []
+  unfolding cellsOf
+  cell-among [] i c h l m = absurd (omega arith)
+  cell-among (r ∷ rs) zero c h l m =
+      let z : zero * n + c ≡ c = omega arith in
+      rw (z, List·getD-append (pad n r) (cellsOf n rs) [] c (omega (arith, pad-length n r (h .0 .fits)))) (pad-at n r c)
+  cell-among (r ∷ rs) (suc i) c h l m =
+      rw (past r i c (h .0 .fits), getD-append-add (pad n r) (cellsOf n rs) (i * n + c) []) (cell-among rs i c (h .1) (omega arith) m)
+
+  padded-bytes : (j k : ℕ) (r : List Tag) → rowBytes (take j (r ++ replicate k [])) ≡ rowBytes (take j r)
+  unfolding rowBytes size
+  padded-bytes zero k r = refl
+  padded-bytes (suc j) zero [] = refl
+  padded-bytes (suc j) (suc k) [] = omega (arith, rw (take-nil j) at (padded-bytes j k []))
+  padded-bytes (suc j) k (t ∷ r) = rw (padded-bytes j k r)
+
+  pad-bytes : (j : ℕ) (r : List Tag) → rowBytes (take j (pad n r)) ≡ rowBytes (take j r)
+  unfolding pad
+  pad-bytes j r = padded-bytes j (n - length r) r
+
+  pad-all : (r : List Tag) → length r ≤ n → rowBytes (pad n r) ≡ rowBytes r
+  pad-all r h = rw (take-all n (pad n r) (omega (arith, pad-length n r h)), take-all n r h) at (pad-bytes n r)
+
+  -- the bytes before it: those of the rows before, and those before it in its row
+  pub bytes-among : (rs : List (List Tag)) (i c : ℕ) → All (Row n) rs → i < length rs → c ≤ n
+      → rowBytes (take (i * n + c) (cellsOf n rs)) ≡ tagBytes (take i rs) + rowBytes (take c (getD rs i []))
+  unfolding cellsOf tagBytes
+  bytes-among [] i c h l m = absurd (omega arith)
+  bytes-among (r ∷ rs) zero c h l m =
+      let z : zero * n + c ≡ c = omega arith in
+      rw (z, take-append-le c (pad n r) (cellsOf n rs) (omega (arith, pad-length n r (h .0 .fits)))) (omega (arith, pad-bytes c r))
+  bytes-among (r ∷ rs) (suc i) c h l m =
+      rw (past r i c (h .0 .fits), take-append-add (pad n r) (cellsOf n rs) (i * n + c), rowBytes-append (pad n r))
+      (omega (arith, pad-all r (h .0 .fits), bytes-among rs i c (h .1) (omega arith) m))
+
+-- ---- the lists of positions and starts
 pub start-is : (at : ℕ) (cs : List ℕ) (i : ℕ) → i ≤ length cs → getD (starts at cs) i 0 ≡ at + size (take i cs)
 unfolding starts size
 start-is at [] zero h = omega arith
@@ -193,17 +200,11 @@ number-small k (c ∷ cs) (suc p) =
           rw (e, getD-append-add (inner c) (numbers (k + 1) cs) (p - (width c - 1)) 0) (omega (arith, number-small (k + 1) cs (p - (width c - 1))))
     ]
 
-pub row-end : (k : ℕ) (rs : List (List Tag)) (i : ℕ) → i < length rs → getD (rowEnds k rs) i 0 ≡ k + listed (take (i + 1) rs)
-unfolding rowEnds listed
-row-end k [] i h = absurd (omega arith)
-row-end k (r ∷ rs) zero h = omega arith
-row-end k (r ∷ rs) (suc i) h = rw add-one (rw add-one at (row-end (k + length r) rs i (omega arith)) ∙ omega arith)
-
-pub tag-end : (g : ℕ) (ts : List Tag) (j : ℕ) → j < length ts → getD (tagEnds g ts) j 0 ≡ g + rowBytes (take (j + 1) ts)
-unfolding tagEnds rowBytes
-tag-end g [] j h = absurd (omega arith)
-tag-end g (t ∷ ts) zero h = omega arith
-tag-end g (t ∷ ts) (suc j) h = rw add-one (rw add-one at (tag-end (g + size t) ts j (omega arith)) ∙ omega arith)
+pub cell-start : (g : ℕ) (ts : List Tag) (j : ℕ) → j < length ts → getD (cellStarts g ts) j 0 ≡ g + rowBytes (take j ts)
+unfolding cellStarts rowBytes
+cell-start g [] j h = absurd (omega arith)
+cell-start g (t ∷ ts) zero h = omega arith
+cell-start g (t ∷ ts) (suc j) h = omega (arith, cell-start (g + size t) ts j (omega arith))
 
 pub mark-back : (m : Mark) → markOf (code m) ≡ m
 unfolding markOf code
@@ -236,25 +237,24 @@ pub record Bounds (r : Record) (d : Buffers) (s : Sentence) : Type 0 where
   pub n-is : r .n ≡ length (text s)
   pub b-is : r .b ≡ size (text s)
   pub columns-is : r .columns ≡ s .columns
-  pub k-is : r .k ≡ listed (rows s)
+  pub cells-is : r .cells ≡ r .n * r .columns
   pub g-is : r .g ≡ tagBytes (rows s)
   pub marks-long : length (marks s) ≡ r .n - 1
   pub rows-long : length (rows s) ≡ r .n
-  pub tags-long : length (tagsOf (rows s)) ≡ r .k
-  pub tags-size : rowBytes (tagsOf (rows s)) ≡ r .g
+  pub cells-are : length (cellsOf (s .columns) (rows s)) ≡ r .cells
+  pub cells-size : rowBytes (cellsOf (s .columns) (rows s)) ≡ r .g
   pub n-some : 1 ≤ r .n
   pub n-few : r .n ≤ r .b
   pub b-few : r .b ≤ 4096
   pub columns-few : r .columns ≤ 4096
-  pub k-few : r .k ≤ 65535
   pub g-few : r .g ≤ 65535
   pub text-room : r .b ≤ length (d .text-buf)
   pub types-room : r .n ≤ length (d .types-buf)
   pub boundaries-room : r .n - 1 ≤ length (d .boundaries-buf)
   pub char-pos-room : r .n + 1 ≤ length (d .char-pos-buf)
   pub byte-pos-room : r .b + 1 ≤ length (d .byte-pos-buf)
-  pub row-ends-room : r .n ≤ length (d .row-ends-buf)
-  pub tag-ends-room : r .k ≤ length (d .tag-ends-buf)
+  pub cell-starts-room : r .cells ≤ length (d .cell-starts-buf)
+  pub cell-lengths-room : r .cells ≤ length (d .cell-lengths-buf)
   pub tag-bytes-room : r .g ≤ length (d .tag-bytes-buf)
 
 module _ {r : Record} {d : Buffers} {s : Sentence} (h : Holds r d s) where
@@ -262,32 +262,30 @@ module _ {r : Record} {d : Buffers} {s : Sentence} (h : Holds r d s) where
   bounds =
       let n-is = n-held h in
       let b-is = b-held h in
-      let k-is = k-held h in
       let g-is = g-held h in
       let c-is = columns-held h in
       record {
         n-is = n-is;
         b-is = b-is;
         columns-is = c-is;
-        k-is = k-is;
+        cells-is = rw (n-is, c-is) (cells-held h);
         g-is = g-is;
         marks-long = omega (arith, length-marks (s .cells));
         rows-long = omega (arith, length-rows (s .cells));
-        tags-long = omega (arith, length-tagsOf (rows s));
-        tags-size = omega (arith, bytes-tagsOf (rows s));
+        cells-are = cells-long h;
+        cells-size = cells-bytes (s .columns) (rows s) ∙ sym g-is;
         n-some = omega (arith, length-marks (s .cells));
         n-few = omega (arith, some-bytes (text s));
         b-few = omega (arith, h .formed .text-fits);
         columns-few = omega (arith, h .formed .columns-fit);
-        k-few = omega (arith, h .formed .tags-fit);
         g-few = omega (arith, h .formed .bytes-fit);
         text-room = text-held h .fits;
         types-room = types-held h .fits;
         boundaries-room = boundaries-held h .fits;
         char-pos-room = char-pos-held h .fits;
         byte-pos-room = byte-pos-held h .fits;
-        row-ends-room = row-ends-held h .fits;
-        tag-ends-room = tag-ends-held h .fits;
+        cell-starts-room = cell-starts-held h .fits;
+        cell-lengths-room = cell-lengths-held h .fits;
         tag-bytes-room = tag-bytes-held h .fits;
       }
 
@@ -309,11 +307,16 @@ module _ {r : Record} {d : Buffers} {s : Sentence} (h : Holds r d s) where
   unfolding code
   boundary-is i k = part-at (boundaries-held h) i k ∙ List·getD-map code (marks s) i none
 
-  pub row-end-is : (i : ℕ) → i < r .n → getD (d .row-ends-buf) i 0 ≡ listed (take (i + 1) (rows s))
-  row-end-is i k = part-at (row-ends-held h) i k ∙ row-end 0 (rows s) i (omega (arith, bounds)) ∙ omega arith
+  -- the cells, row after row
+  abbrev pub cells : List Tag
+  cells = cellsOf (s .columns) (rows s)
 
-  pub tag-end-is : (j : ℕ) → j < r .k → getD (d .tag-ends-buf) j 0 ≡ rowBytes (take (j + 1) (tagsOf (rows s)))
-  tag-end-is j k = part-at (tag-ends-held h) j k ∙ tag-end 0 (tagsOf (rows s)) j (omega (arith, bounds)) ∙ omega arith
+  pub cell-start-is : (j : ℕ) → j < r .cells → getD (d .cell-starts-buf) j 0 ≡ rowBytes (take j cells)
+  cell-start-is j k = part-at (cell-starts-held h) j k ∙ cell-start 0 cells j (omega (arith, bounds)) ∙ omega arith
+
+  pub cell-length-is : (j : ℕ) → j < r .cells → getD (d .cell-lengths-buf) j 0 ≡ size (getD cells j [])
+  unfolding size
+  cell-length-is j k = part-at (cell-lengths-held h) j k ∙ List·getD-map size cells j []
 
   -- ---- parts of the text and of the tag bytes
   -- the bytes of the characters from b up to e
@@ -325,17 +328,16 @@ module _ {r : Record} {d : Buffers} {s : Sentence} (h : Holds r d s) where
       (omega (arith, bounds, bytes-before (text s) e, bytes-more (text s) b e k))
       ∙ (rw f at (part encodes size encodes-append length-encodes (text s) b (e - b)))
 
-  -- the bytes of the j-th listed tag
-  pub tag-part : (j : ℕ) → j < r .k
-      → take (size (getD (tagsOf (rows s)) j [])) (drop (rowBytes (take j (tagsOf (rows s)))) (d .tag-bytes-buf)) ≡ encodes (getD (tagsOf (rows s)) j [])
+  -- the bytes of the j-th cell
+  pub cell-part : (j : ℕ) → j < r .cells → take (size (getD cells j [])) (drop (rowBytes (take j cells)) (d .tag-bytes-buf)) ≡ encodes (getD cells j [])
   unfolding bytesOf
-  tag-part j k =
-      let ts = tagsOf (rows s) in
-      let l : j < length ts = omega (arith, bounds) in
-      let n = tag-bytes-next ts j l in
-      let f : rowBytes (take (j + 1) ts) - rowBytes (take j ts) ≡ size (getD ts j []) = omega arith in
-      part-of (tag-bytes-held h) (rowBytes (take j ts)) (size (getD ts j [])) (omega (arith, bounds, tag-bytes-before ts (j + 1)))
-      ∙ (rw (f, left [] ts j l, append-nil) at (part bytesOf rowBytes bytes-joined length-bytesOf ts j 1))
+  cell-part j k =
+      let l : j < length cells = omega (arith, bounds) in
+      let n = tag-bytes-next cells j l in
+      let f : rowBytes (take (j + 1) cells) - rowBytes (take j cells) ≡ size (getD cells j []) = omega arith in
+      let e = bytes-same (s .columns) (rows s) in
+      part-of (tag-bytes-held h) (rowBytes (take j cells)) (size (getD cells j [])) (omega (arith, bounds, tag-bytes-before cells (j + 1)))
+      ∙ rw (← e) (rw (f, left [] cells j l, append-nil) at (part bytesOf rowBytes bytes-joined length-bytesOf cells j 1))
 
   -- ---- steps of a loop that goes by characters and boundaries
   pub marks-step : (i : ℕ) → i < r .n - 1 → drop i (marks s) ≡ markOf (getD (d .boundaries-buf) i 0) ∷ drop (i + 1) (marks s)
@@ -371,22 +373,22 @@ module _ {r : Record} {d : Buffers} {s : Sentence} (h : Holds r d s) where
   pub text-end : size (take (r .n) (text s)) ≡ r .b
   text-end = rw (bounds .n-is, take-length) (sym (bounds .b-is))
 
-  -- ---- steps of a loop that goes by rows and tags
-  pub row-next : (i : ℕ) → i < r .n → listed (take (i + 1) (rows s)) ≡ listed (take i (rows s)) + length (getD (rows s) i [])
-  row-next i k = listed-next (rows s) i (omega (arith, bounds))
+  -- ---- steps of a loop that goes by cells
+  pub cell-next : (j : ℕ) → j < r .cells → rowBytes (take (j + 1) cells) ≡ rowBytes (take j cells) + size (getD cells j [])
+  cell-next j k = tag-bytes-next cells j (omega (arith, bounds))
 
-  pub row-inside : (i : ℕ) → i ≤ r .n → listed (take i (rows s)) ≤ r .k
-  row-inside i k = omega (arith, bounds, listed-before (rows s) i)
+  pub cell-inside : (j : ℕ) → rowBytes (take j cells) ≤ r .g
+  cell-inside j = omega (arith, bounds, tag-bytes-before cells j)
 
-  -- the c-th tag of the i-th row among the listed ones
-  pub tag-in-row : (i c : ℕ) → i < r .n → c < length (getD (rows s) i []) → getD (tagsOf (rows s)) (listed (take i (rows s)) + c) [] ≡ getD (getD (rows s) i []) c []
-  tag-in-row i c k l = tag-among (rows s) i c (omega (arith, bounds)) l
+  -- the c-th cell of the i-th row stands among all
+  pub cell-fits : (i c : ℕ) → i < r .n → c < r .columns → i * r .columns + c < r .cells
+  cell-fits i c k l = omega (arith, bounds .cells-is, mul-le-mul-right {m = suc i} {n = r .n} (r .columns) (omega arith))
 
-  pub tag-next : (j : ℕ) → j < r .k → rowBytes (take (j + 1) (tagsOf (rows s))) ≡ rowBytes (take j (tagsOf (rows s))) + size (getD (tagsOf (rows s)) j [])
-  tag-next j k = tag-bytes-next (tagsOf (rows s)) j (omega (arith, bounds))
+  pub cell-in-row : (i c : ℕ) → i < r .n → c < r .columns → getD cells (i * r .columns + c) [] ≡ getD (getD (rows s) i []) c []
+  cell-in-row i c k l = rw (bounds .columns-is) (cell-among (s .columns) (rows s) i c (rows-held h) (omega (arith, bounds)) (omega (arith, bounds)))
 
-  pub tag-inside : (j : ℕ) → j ≤ r .k → rowBytes (take j (tagsOf (rows s))) ≤ r .g
-  tag-inside j k = omega (arith, bounds, tag-bytes-before (tagsOf (rows s)) j)
+  pub cell-at : (i c : ℕ) → i < r .n → c ≤ r .columns → rowBytes (take (i * r .columns + c) cells) ≡ tagBytes (take i (rows s)) + rowBytes (take c (getD (rows s) i []))
+  cell-at i c k l = rw (bounds .columns-is) (bytes-among (s .columns) (rows s) i c (rows-held h) (omega (arith, bounds)) (omega (arith, bounds)))
 
   -- a row lists at most as many tags as there are columns
   pub row-fits : (i : ℕ) → i < r .n → length (getD (rows s) i []) ≤ r .columns

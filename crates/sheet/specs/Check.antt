@@ -1,23 +1,22 @@
 -- Whether a record and buffers are a sheet: the limits, the room, then a test for each pass over what the record counts of the buffers.
-use Prim.Native.Nat.{_+_, _-_, _≤_}
+use Prim.Native.Nat.{_+_, _-_, _*_, _≤_}
 use mathlib.Core.Bool.{Bool, _&&_}
-use lib.Dec.{leb}
+use lib.Dec.{eqb, leb}
 use lib.ListN.{length, take}
-use Rattle.parts.specs.Parts.{isText, areMarks, areTags, areRows}
+use Rattle.parts.specs.Parts.{isText, areMarks, areCells}
 use Rattle.sheet.specs.declared.Record.{Record}
 use Rattle.sheet.specs.Layout.{Buffers, roomFor}
 
--- N is at least 1, B and columns at most 4,096, K and G at most 65,535
+-- N is at least 1 and at most B, B and columns at most 4,096, G at most 65,535; there are N times columns cells
 unfoldable pub inLimits : Record → Bool
-inLimits r = leb 1 (r .n) && leb (r .b) 4096 && leb (r .columns) 4096 && leb (r .k) 65535 && leb (r .g) 65535
+inLimits r = leb 1 (r .n) && leb (r .n) (r .b) && leb (r .b) 4096 && leb (r .columns) 4096 && leb (r .g) 65535 && eqb (r .cells) (r .n * r .columns)
 
 -- what the record counts of the buffers is laid out as a sentence is
 unfoldable pub isLaid : Record → Buffers → Bool
 isLaid r d =
     isText (take (r .b) (d .text-buf)) (take (r .n) (d .types-buf)) (take (r .n + 1) (d .char-pos-buf)) (take (r .b + 1) (d .byte-pos-buf))
     && areMarks (take (r .n - 1) (d .boundaries-buf))
-    && areTags (take (r .g) (d .tag-bytes-buf)) 0 (take (r .k) (d .tag-ends-buf))
-    && areRows (r .columns) (take (r .k) (d .tag-ends-buf)) 0 (take (r .n) (d .row-ends-buf))
+    && areCells (take (r .g) (d .tag-bytes-buf)) 0 (take (r .cells) (d .cell-starts-buf)) (take (r .cells) (d .cell-lengths-buf))
 
 -- N is at least 1, and there is room for what the record counts
 pub record Room (r : Record) (d : Buffers) : Type 0 where
@@ -27,8 +26,8 @@ pub record Room (r : Record) (d : Buffers) : Type 0 where
   pub boundaries-room : r .n - 1 ≤ length (d .boundaries-buf)
   pub char-pos-room : r .n + 1 ≤ length (d .char-pos-buf)
   pub byte-pos-room : r .b + 1 ≤ length (d .byte-pos-buf)
-  pub row-ends-room : r .n ≤ length (d .row-ends-buf)
-  pub tag-ends-room : r .k ≤ length (d .tag-ends-buf)
+  pub cell-starts-room : r .cells ≤ length (d .cell-starts-buf)
+  pub cell-lengths-room : r .cells ≤ length (d .cell-lengths-buf)
   pub tag-bytes-room : r .g ≤ length (d .tag-bytes-buf)
 
 -- the record and the buffers are a sheet

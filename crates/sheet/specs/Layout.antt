@@ -1,13 +1,13 @@
 -- How a sentence lies in eight lent buffers, and which sentence a record and buffers hold.
-use Prim.Native.Nat.{ℕ, zero, suc, _+_, _-_, _≤_}
+use Prim.Native.Nat.{ℕ, zero, suc, _+_, _-_, _*_}
 use mathlib.Core.Path.{_≡_}
-use mathlib.Core.Bool.{Bool, true, false, _&&_}
+use mathlib.Core.Bool.{Bool, _&&_}
 use mathlib.Core.List.{List, [], _∷_, _++_, map}
-use lib.Dec.{eqb, leb}
+use lib.Dec.{leb}
 use lib.ListN.{length, take, drop, getD}
 use Rattle.laws.specs.Put.{over}
 use Rattle.utf8.specs.Utf8.{scalars, encodes, size}
-use Rattle.sentence.specs.Sentence.{Tag, Mark, none, word, unknown, code, Cells, final, cell, Sentence, text, marks, rows, count, types, charPositions, bytePositions, listed, tagBytes, Formed}
+use Rattle.sentence.specs.Sentence.{Tag, Mark, none, word, unknown, code, Cells, final, cell, Sentence, text, marks, rows, count, types, charPositions, bytePositions, cut, pad, tagBytes, Formed}
 use Rattle.sheet.specs.declared.Record.{Record}
 
 -- the contents of the eight buffers
@@ -17,8 +17,8 @@ pub record Buffers : Type 0 where
   pub boundaries-buf : List ℕ
   pub char-pos-buf : List ℕ
   pub byte-pos-buf : List ℕ
-  pub row-ends-buf : List ℕ
-  pub tag-ends-buf : List ℕ
+  pub cell-starts-buf : List ℕ
+  pub cell-lengths-buf : List ℕ
   pub tag-bytes-buf : List ℕ
 
 abbrev pub buffers : List ℕ → List ℕ → List ℕ → List ℕ → List ℕ → List ℕ → List ℕ → List ℕ → Buffers
@@ -28,29 +28,29 @@ buffers t y m c b r e g = record {
   boundaries-buf = m;
   char-pos-buf = c;
   byte-pos-buf = b;
-  row-ends-buf = r;
-  tag-ends-buf = e;
+  cell-starts-buf = r;
+  cell-lengths-buf = e;
   tag-bytes-buf = g;
 }
 
--- N, B, columns, K and G
+-- N, B, columns, N times columns, and G
 unfoldable pub recordOf : Sentence → Record
-recordOf s = record { n = count s; b = size (text s); columns = s .columns; k = listed (rows s); g = tagBytes (rows s) }
+recordOf s = record { n = count s; b = size (text s); columns = s .columns; cells = count s * s .columns; g = tagBytes (rows s) }
 
 -- all listed tags, row after row
 unfoldable pub tagsOf : List (List Tag) → List Tag
 tagsOf [] = []
 tagsOf (r ∷ rs) = r ++ tagsOf rs
 
--- where each row ends among the listed tags, after k of them
-unfoldable pub rowEnds : ℕ → List (List Tag) → List ℕ
-rowEnds k [] = []
-rowEnds k (r ∷ rs) = (k + length r) ∷ rowEnds (k + length r) rs
+-- all cells, row after row, with absent tags up to n columns
+unfoldable pub cellsOf : ℕ → List (List Tag) → List Tag
+cellsOf n [] = []
+cellsOf n (r ∷ rs) = pad n r ++ cellsOf n rs
 
--- where each tag ends among the tag bytes, after g of them
-unfoldable pub tagEnds : ℕ → List Tag → List ℕ
-tagEnds g [] = []
-tagEnds g (t ∷ ts) = (g + size t) ∷ tagEnds (g + size t) ts
+-- where each cell starts among the tag bytes: behind g of them, and those of all cells before
+unfoldable pub cellStarts : ℕ → List Tag → List ℕ
+cellStarts g [] = []
+cellStarts g (t ∷ ts) = g ∷ cellStarts (g + size t) ts
 
 -- the bytes of tags, one after another
 unfoldable pub bytesOf : List Tag → List ℕ
@@ -65,8 +65,8 @@ lay s = record {
   boundaries-buf = map code (marks s);
   char-pos-buf = charPositions (text s);
   byte-pos-buf = bytePositions (text s);
-  row-ends-buf = rowEnds 0 (rows s);
-  tag-ends-buf = tagEnds 0 (tagsOf (rows s));
+  cell-starts-buf = cellStarts 0 (cellsOf (s .columns) (rows s));
+  cell-lengths-buf = map size (cellsOf (s .columns) (rows s));
   tag-bytes-buf = bytesOf (tagsOf (rows s));
 }
 
@@ -78,12 +78,12 @@ laid s d = record {
   boundaries-buf = over (lay s .boundaries-buf) (d .boundaries-buf);
   char-pos-buf = over (lay s .char-pos-buf) (d .char-pos-buf);
   byte-pos-buf = over (lay s .byte-pos-buf) (d .byte-pos-buf);
-  row-ends-buf = over (lay s .row-ends-buf) (d .row-ends-buf);
-  tag-ends-buf = over (lay s .tag-ends-buf) (d .tag-ends-buf);
+  cell-starts-buf = over (lay s .cell-starts-buf) (d .cell-starts-buf);
+  cell-lengths-buf = over (lay s .cell-lengths-buf) (d .cell-lengths-buf);
   tag-bytes-buf = over (lay s .tag-bytes-buf) (d .tag-bytes-buf);
 }
 
--- the room needed: text B, types N, boundaries N-1, char positions N+1, byte positions B+1, row ends N, tag ends K, tag bytes G
+-- the room needed: text B, types N, boundaries N-1, char positions N+1, byte positions B+1, starts and lengths a cell each, tag bytes G
 unfoldable pub roomFor : Record → Buffers → Bool
 roomFor r d =
     leb (r .b) (length (d .text-buf))
@@ -91,8 +91,8 @@ roomFor r d =
     && leb (r .n - 1) (length (d .boundaries-buf))
     && leb (r .n + 1) (length (d .char-pos-buf))
     && leb (r .b + 1) (length (d .byte-pos-buf))
-    && leb (r .n) (length (d .row-ends-buf))
-    && leb (r .k) (length (d .tag-ends-buf))
+    && leb (r .cells) (length (d .cell-starts-buf))
+    && leb (r .cells) (length (d .cell-lengths-buf))
     && leb (r .g) (length (d .tag-bytes-buf))
 
 -- a buffer starts with a part
@@ -108,15 +108,20 @@ pub record Holds (r : Record) (d : Buffers) (s : Sentence) : Type 0 where
   pub boundaries-at : Front (lay s .boundaries-buf) (d .boundaries-buf)
   pub char-pos-at : Front (lay s .char-pos-buf) (d .char-pos-buf)
   pub byte-pos-at : Front (lay s .byte-pos-buf) (d .byte-pos-buf)
-  pub row-ends-at : Front (lay s .row-ends-buf) (d .row-ends-buf)
-  pub tag-ends-at : Front (lay s .tag-ends-buf) (d .tag-ends-buf)
+  pub cell-starts-at : Front (lay s .cell-starts-buf) (d .cell-starts-buf)
+  pub cell-lengths-at : Front (lay s .cell-lengths-buf) (d .cell-lengths-buf)
   pub tag-bytes-at : Front (lay s .tag-bytes-buf) (d .tag-bytes-buf)
 
 -- ---- the sentence that a record and buffers spell
--- a list cut at ends that are counted from g on
-unfoldable pub pieces : {A : Type 0} → ℕ → List ℕ → List A → List (List A)
-pieces g [] d = []
-pieces g (e ∷ es) d = take (e - g) d ∷ pieces e es (drop (e - g) d)
+-- a list cut into parts of these lengths
+unfoldable pub slices : List ℕ → List ℕ → List (List ℕ)
+slices [] d = []
+slices (l ∷ ls) d = take l d ∷ slices ls (drop l d)
+
+-- k rows of n cells each, up to their last present one
+unfoldable pub rowsBy : ℕ → ℕ → List Tag → List (List Tag)
+rowsBy n zero ts = []
+rowsBy n (suc k) ts = cut (take n ts) ∷ rowsBy n k (drop n ts)
 
 -- the boundary of a number
 unfoldable pub markOf : ℕ → Mark
@@ -136,7 +141,7 @@ spell r d = record {
       link
       (scalars (take (r .b) (d .text-buf)))
       (map markOf (take (r .n - 1) (d .boundaries-buf)))
-      (pieces 0 (take (r .n) (d .row-ends-buf)) (map scalars (pieces 0 (take (r .k) (d .tag-ends-buf)) (d .tag-bytes-buf))));
+      (rowsBy (r .columns) (r .n) (map scalars (slices (take (r .cells) (d .cell-lengths-buf)) (d .tag-bytes-buf))));
   columns = r .columns;
 }
 

@@ -1,2 +1,4 @@
 pub mod Layout
+pub mod Listed
 pub mod Check
+pub mod Worked

@@ -5,12 +5,12 @@ ghost use mathlib.Core.Bool.{_&&_};
 ghost use Rattle.sheet.specs.Layout.{buffers, roomFor};
 ghost use Rattle.sheet.specs.Check.{inLimits, isLaid, Room, isSheet};
 
-// How much of the buffers a sentence takes: characters, text bytes, tag columns, listed tags, tag bytes.
+// How much of the buffers a sentence takes: characters, text bytes, tag columns, cells (characters times columns), tag bytes.
 pub struct Record {
     pub n: usize,
     pub b: usize,
     pub columns: usize,
-    pub k: usize,
+    pub cells: usize,
     pub g: usize,
 }
 
@@ -37,7 +37,10 @@ pub enum Part {
 fn in_limits(r: Record) -> bool
     ensures { λ ok. ⌜ ok ≡ inLimits r ⌝ }
 {
-    (1 <= r.n) & (r.b <= 4096) & (r.columns <= 4096) & (r.k <= 65535) & (r.g <= 65535)
+    if !((1 <= r.n) & (r.n <= r.b) & (r.b <= 4096) & (r.columns <= 4096) & (r.g <= 65535)) {
+        return false;
+    }
+    r.cells == r.n * r.columns
 }
 
 // The limits, and room for what a record counts.
@@ -48,11 +51,11 @@ fn fits(
     boundaries: &[u8],
     char_pos: &[u16],
     byte_pos: &[u16],
-    row_ends: &[u16],
-    tag_ends: &[u16],
+    cell_starts: &[u16],
+    cell_lengths: &[u16],
     tag_bytes: &[u8],
 ) -> bool
-    ensures { λ ok. ⌜ ok ≡ (inLimits r && roomFor r (buffers (now (text .entry)) (now (types .entry)) (now (boundaries .entry)) (now («char_pos» .entry)) (now («byte_pos» .entry)) (now («row_ends» .entry)) (now («tag_ends» .entry)) (now («tag_bytes» .entry)))) ⌝ }
+    ensures { λ ok. ⌜ ok ≡ (inLimits r && roomFor r (buffers (now (text .entry)) (now (types .entry)) (now (boundaries .entry)) (now («char_pos» .entry)) (now («byte_pos» .entry)) (now («cell_starts» .entry)) (now («cell_lengths» .entry)) (now («tag_bytes» .entry)))) ⌝ }
 {
     in_limits(r)
         & ((r.b <= text.len())
@@ -60,8 +63,8 @@ fn fits(
             & (r.n <= boundaries.len() + 1)
             & (r.n < char_pos.len())
             & (r.b < byte_pos.len())
-            & (r.n <= row_ends.len())
-            & (r.k <= tag_ends.len())
+            & (r.cells <= cell_starts.len())
+            & (r.cells <= cell_lengths.len())
             & (r.g <= tag_bytes.len()))
 }
 
@@ -73,12 +76,12 @@ fn is_laid(
     boundaries: &[u8],
     char_pos: &[u16],
     byte_pos: &[u16],
-    row_ends: &[u16],
-    tag_ends: &[u16],
+    cell_starts: &[u16],
+    cell_lengths: &[u16],
     tag_bytes: &[u8],
 ) -> bool
-    requires { ⌜ Room r (buffers (now text) (now types) (now boundaries) (now «char_pos») (now «byte_pos») (now «row_ends») (now «tag_ends») (now «tag_bytes»)) ⌝ }
-    ensures { λ ok. ⌜ ok ≡ isLaid r (buffers (now (text .entry)) (now (types .entry)) (now (boundaries .entry)) (now («char_pos» .entry)) (now («byte_pos» .entry)) (now («row_ends» .entry)) (now («tag_ends» .entry)) (now («tag_bytes» .entry))) ⌝ }
+    requires { ⌜ Room r (buffers (now text) (now types) (now boundaries) (now «char_pos») (now «byte_pos») (now «cell_starts») (now «cell_lengths») (now «tag_bytes»)) ⌝ }
+    ensures { λ ok. ⌜ ok ≡ isLaid r (buffers (now (text .entry)) (now (types .entry)) (now (boundaries .entry)) (now («char_pos» .entry)) (now («byte_pos» .entry)) (now («cell_starts» .entry)) (now («cell_lengths» .entry)) (now («tag_bytes» .entry))) ⌝ }
 {
     if !parts::is_text(
         &text[..r.b],
@@ -91,10 +94,11 @@ fn is_laid(
     if !parts::are_marks(&boundaries[..r.n - 1]) {
         return false;
     }
-    if !parts::are_tags(&tag_bytes[..r.g], &tag_ends[..r.k]) {
-        return false;
-    }
-    parts::are_rows(r.columns, &tag_ends[..r.k], &row_ends[..r.n])
+    parts::are_cells(
+        &tag_bytes[..r.g],
+        &cell_starts[..r.cells],
+        &cell_lengths[..r.cells],
+    )
 }
 
 // Whether the record and the buffers are a sheet: a sentence as laid out, within the limits.
@@ -105,11 +109,11 @@ pub fn check(
     boundaries: &[u8],
     char_pos: &[u16],
     byte_pos: &[u16],
-    row_ends: &[u16],
-    tag_ends: &[u16],
+    cell_starts: &[u16],
+    cell_lengths: &[u16],
     tag_bytes: &[u8],
 ) -> bool
-    ensures { λ ok. ⌜ ok ≡ isSheet r (buffers (now (text .entry)) (now (types .entry)) (now (boundaries .entry)) (now («char_pos» .entry)) (now («byte_pos» .entry)) (now («row_ends» .entry)) (now («tag_ends» .entry)) (now («tag_bytes» .entry))) ⌝ }
+    ensures { λ ok. ⌜ ok ≡ isSheet r (buffers (now (text .entry)) (now (types .entry)) (now (boundaries .entry)) (now («char_pos» .entry)) (now («byte_pos» .entry)) (now («cell_starts» .entry)) (now («cell_lengths» .entry)) (now («tag_bytes» .entry))) ⌝ }
 {
     if !fits(
         r,
@@ -118,8 +122,8 @@ pub fn check(
         boundaries,
         char_pos,
         byte_pos,
-        row_ends,
-        tag_ends,
+        cell_starts,
+        cell_lengths,
         tag_bytes,
     ) {
         return false;
@@ -131,8 +135,8 @@ pub fn check(
         boundaries,
         char_pos,
         byte_pos,
-        row_ends,
-        tag_ends,
+        cell_starts,
+        cell_lengths,
         tag_bytes,
     )
 }

@@ -1,15 +1,15 @@
 -- The stores of a character's bytes and numbers, of a value for the character before, and of a repeated value. Assumes nothing.
-use Prim.Native.Nat.{ℕ, zero, suc, _+_, _-_, _≤_, _<_}
+use Prim.Native.Nat.{ℕ, zero, suc, _+_, _-_, _*_, _≤_, _<_}
+use native.Mathlib.Nat.{add-zero, mul-le-mul-right}
 use mathlib.Core.Path.{_≡_, refl, sym, ap, _∙_}
-use mathlib.Core.List.{List, [], _∷_}
+use mathlib.Core.Bool.{Bool, true, false}
+use mathlib.Core.List.{List, [], _∷_, _++_, append-nil}
 use native.Mathlib.Omega.{arith}
-use lib.ListN.{length, getD, set, take, drop, replicate, length-set, length-take, length-drop, length-replicate}
-use Rattle.laws.specs.Put.{put, drop-step}
-use Rattle.counts.specs.declared.Open.{Open}
-use Rattle.counts.specs.declared.Open.the-variants.{No, Empty, Present}
+use lib.ListN.{length, getD, set, take, drop, replicate, length-append, length-set, length-take, length-drop, length-replicate}
+use Rattle.laws.specs.Put.{put, length-put, drop-step}
 use Rattle.counts.specs.declared.Counts.{Counts}
-use Rattle.counts.specs.Counts.{opened, ends}
-use Rattle.stores.specs.Parts.{later, closes, passed, kept, rowEnd}
+use Rattle.counts.specs.Counts.{Small, opened}
+use Rattle.stores.specs.Parts.{later, spot, place, openCell, absentCells, rowCells, kept, Narrow, CellRoom, RowRoom}
 
 -- ---- a character's bytes
 take-next : (x : List ℕ) (at n : ℕ) → at < length x → take (suc n) (drop at x) ≡ getD x at 0 ∷ take n (drop (at + 1) x)
@@ -95,40 +95,161 @@ repeat-done d₀ d at v n i h r =
 pub later-fits : (n i m v : ℕ) → (n ≡ 0 → ⊥) → i + length (later n v) ≤ m → i < m
 later-fits n i m v h l = omega (arith, ap length (later-some n v h))
 
-pub closes-fits : (t : Open) (i m g : ℕ) → t ≡ Present → i + length (closes t g) ≤ m → i < m
-unfolding closes
-closes-fits t i m g e l = omega (arith, rw e at l)
-
-pub passed-fits : (t : Open) (i m gaps g : ℕ) → t ≡ Empty → i + length (passed t gaps g) ≤ m → i + gaps ≤ m
-unfolding passed
-passed-fits t i m gaps g e l = omega (arith, rw (e, length-replicate) at l)
-
-pub kept-fits : (t u : Open) (i m n at : ℕ) (x : List ℕ) → at + n ≤ length x → t ≡ u → opened u ≡ 1 → i + length (kept t (take n (drop at x))) ≤ m → i + n ≤ m
-unfolding kept opened
-kept-fits t No i m n at x h e o l = absurd (omega arith)
-kept-fits t Empty i m n at x h e o l = omega (arith, rw e at l, length-take n (drop at x), length-drop at x)
-kept-fits t Present i m n at x h e o l = omega (arith, rw e at l, length-take n (drop at x), length-drop at x)
+pub kept-fits : (t : Bool) (i m n at : ℕ) (x : List ℕ) → at + n ≤ length x → t ≡ true → i + length (kept t (take n (drop at x))) ≤ m → i + n ≤ m
+unfolding kept
+kept-fits t i m n at x h e l = omega (arith, rw e at l, length-take n (drop at x), length-drop at x)
 
 -- ---- what the stores leave, as the parts say it
 pub later-stored : (d : List ℕ) (i n v r : ℕ) → (n ≡ 0 → ⊥) → r ≡ v → set d i r ≡ put d i (later n v)
 later-stored d i n v r h e = rw (later-some n v h, e)
 
-pub row-stored : (d : List ℕ) (k : Counts) (r : ℕ) → (k .n ≡ 0 → ⊥) → r ≡ ends (k .tag) → set d (k .n - 1) (k .k + r) ≡ put d (k .n - 1) (rowEnd k)
-unfolding rowEnd
-row-stored d k r h e = later-stored d (k .n - 1) (k .n) (k .k + ends (k .tag)) (k .k + r) h (rw e)
+pub kept-some : (d e x : List ℕ) (t : Bool) (i : ℕ) → t ≡ true → e ≡ put d i x → e ≡ put d i (kept t x)
+unfolding kept
+kept-some d e x t i h k = rw h k
 
-pub passed-stored : (d e : List ℕ) (t : Open) (i gaps g : ℕ) → t ≡ Empty → e ≡ put d i (replicate gaps g) → e ≡ put d i (passed t gaps g)
-unfolding passed
-passed-stored d e t i gaps g h k = rw h k
-
-pub kept-none : (d x : List ℕ) (t : Open) (i : ℕ) → t ≡ No → d ≡ put d i (kept t x)
+pub kept-none : (d x : List ℕ) (t : Bool) (i : ℕ) → t ≡ false → d ≡ put d i (kept t x)
 unfolding kept
 kept-none d x t i h = rw h
 
-pub kept-empty : (d e x : List ℕ) (t : Open) (i : ℕ) → t ≡ Empty → e ≡ put d i x → e ≡ put d i (kept t x)
-unfolding kept
-kept-empty d e x t i h k = rw h k
+-- ---- cells
+-- where n characters were read, the next cell goes behind those of all but the last
+pub spot-none : (c n t : ℕ) → n ≡ 0 → 0 ≡ spot c n t
+unfolding spot
+spot-none c n t e = rw e
 
-pub kept-present : (d e x : List ℕ) (t : Open) (i : ℕ) → t ≡ Present → e ≡ put d i x → e ≡ put d i (kept t x)
-unfolding kept
-kept-present d e x t i h k = rw h k
+pub spot-some : (c n t : ℕ) → (n ≡ 0 → ⊥) → (n - 1) * c + t ≡ spot c n t
+unfolding spot
+spot-some c zero t h = absurd (h refl)
+spot-some c (suc n) t h = let e : suc n - 1 ≡ n = omega arith in rw e
+
+-- cells are as many as a number can be
+module _ (c : ℕ) (k : Counts) (s : Small k 4096) (w : Narrow c k) where
+  cells-few : (k .n - 1) * c ≤ 16777216
+  cells-few = omega (arith, w .few, mul-le-mul-right {m = k .n - 1} {n = 4096} c (omega (arith, s .n-small)))
+
+  pub rows-small : (k .n - 1) * c < 18446744073709551616
+  rows-small = omega (arith, cells-few)
+
+  pub spot-small : (k .n - 1) * c + k .tags < 18446744073709551616
+  spot-small = omega (arith, cells-few, s .tags-small)
+
+  pub spot-few : spot c (k .n) (k .tags) ≤ 16781312
+  spot-few = on (k .n) refl
+    where
+      on : (n : ℕ) → k .n ≡ n → spot c n (k .tags) ≤ 16781312
+      on zero e = rw (← (spot-none c zero (k .tags) refl)) (omega arith)
+      on (suc n) e = rw (← (spot-some c (suc n) (k .tags) (λ z. absurd (omega arith)))) (omega (arith, rw e at cells-few, s .tags-small))
+
+module _ (n : ℕ) (o : Bool) (v : ℕ) where
+  pub open-before : n ≡ 0 → openCell n o v ≡ []
+  unfolding openCell
+  open-before e = rw e
+
+  pub open-closed : o ≡ false → openCell n o v ≡ []
+  unfolding openCell
+  open-closed e = on n
+    where
+      on : (m : ℕ) → openCell m o v ≡ []
+      on zero = refl
+      on (suc m) = rw e
+
+  pub open-one : (n ≡ 0 → ⊥) → o ≡ true → openCell n o v ≡ v ∷ []
+  unfolding openCell
+  open-one h e = on n h
+    where
+      on : (m : ℕ) → (m ≡ 0 → ⊥) → openCell m o v ≡ v ∷ []
+      on zero h = absurd (h refl)
+      on (suc m) h = rw e
+
+  pub length-open : (n ≡ 0 → ⊥) → length (openCell n o v) ≡ opened o
+  unfolding openCell opened
+  length-open h = on n o h
+    where
+      on : (m : ℕ) (b : Bool) → (m ≡ 0 → ⊥) → length (openCell m b v) ≡ opened b
+      on zero b h = absurd (h refl)
+      on (suc m) true h = refl
+      on (suc m) false h = refl
+
+  -- what is left in place of it
+  pub none-stored : (d : List ℕ) (i : ℕ) → n ≡ 0 → d ≡ put d i (openCell n o v)
+  none-stored d i e = rw (open-before e)
+
+  pub closed-stored : (d : List ℕ) (i : ℕ) → o ≡ false → d ≡ put d i (openCell n o v)
+  closed-stored d i e = rw (open-closed e)
+
+  pub open-stored : (d : List ℕ) (i j : ℕ) → j ≡ i → (n ≡ 0 → ⊥) → o ≡ true → set d j v ≡ put d i (openCell n o v)
+  open-stored d i j q h e = rw (open-one h e, q)
+
+  pub open-fits : (i j m : ℕ) → j ≡ i → (n ≡ 0 → ⊥) → o ≡ true → i + length (openCell n o v) ≤ m → j < m
+  open-fits i j m q h e l = omega (arith, ap length (open-one h e))
+
+pub put-append : (xs ys d : List ℕ) (i : ℕ) → put d i (xs ++ ys) ≡ put (put d i xs) (i + length xs) ys
+put-append [] ys d i = rw add-zero
+put-append (x ∷ xs) ys d i = put-append xs ys (set d i x) (i + 1) ∙ rw same
+  where
+    same : i + 1 + length xs ≡ i + suc (length xs)
+    same = omega arith
+
+module _ (c v z : ℕ) (k : Counts) where
+  pub row-first : (i m : ℕ) → i + length (rowCells c v z k) ≤ m → i + length (openCell (k .n) (k .tag) v) ≤ m
+  unfolding rowCells
+  row-first i m h = omega (arith, length-append (openCell (k .n) (k .tag) v) (absentCells (k .n) (c - (k .tags + opened (k .tag))) z))
+
+  pub row-none : (d e : List ℕ) (i : ℕ) → k .n ≡ 0 → e ≡ put d i (openCell (k .n) (k .tag) v) → e ≡ put d i (rowCells c v z k)
+  unfolding rowCells absentCells
+  row-none d e i h q = rw (h, append-nil) (rw h at q)
+
+  absent-some : (n j : ℕ) → (n ≡ 0 → ⊥) → absentCells n j z ≡ replicate j z
+  unfolding absentCells
+  absent-some zero j h = absurd (h refl)
+  absent-some (suc n) j h = refl
+
+  pub row-rest : (d e : List ℕ) (i p o : ℕ) → p ≡ i → (k .n ≡ 0 → ⊥) → o ≡ opened (k .tag) → e ≡ put d i (openCell (k .n) (k .tag) v) → i + length (rowCells c v z k) ≤ length d
+      → p + o + (c - (k .tags + o)) ≤ length e
+  unfolding rowCells
+  row-rest d e i p o u h q w l =
+      omega (
+        arith,
+        rw (absent-some (k .n) (c - (k .tags + opened (k .tag))) h, length-append, length-replicate, length-open (k .n) (k .tag) v h) at l,
+        ap (λ (b : ℕ). c - (k .tags + b)) q,
+        ap length w,
+        length-put (openCell (k .n) (k .tag) v) d i,
+      )
+
+  pub row-stored : (d e f : List ℕ) (i p o : ℕ) → p ≡ i → (k .n ≡ 0 → ⊥) → o ≡ opened (k .tag) → e ≡ put d i (openCell (k .n) (k .tag) v) → f ≡ put e (p + o) (replicate (c - (k .tags + o)) z)
+      → f ≡ put d i (rowCells c v z k)
+  unfolding rowCells
+  row-stored d e f i p o u h q w r =
+      r ∙ rw (u, q, w) (sym (put-append (openCell (k .n) (k .tag) v) (absentCells (k .n) (c - (k .tags + opened (k .tag))) z) d i
+      ∙ rw (absent-some (k .n) (c - (k .tags + opened (k .tag))) h, length-open (k .n) (k .tag) v h)))
+
+-- ---- both lists of cells; r is where the open tag starts
+module _ (c : ℕ) (k : Counts) (b l : List ℕ) (r : ℕ) (q : r ≡ k .g - k .long) where
+  pub start-room : CellRoom c k b l → place c k + length (openCell (k .n) (k .tag) r) ≤ length b
+  start-room h = rw q (h .starts-room)
+
+  pub start-stored : (b′ : List ℕ) → b′ ≡ put b (place c k) (openCell (k .n) (k .tag) r) → b′ ≡ put b (place c k) (openCell (k .n) (k .tag) (k .g - k .long))
+  start-stored b′ e = rw q at e
+
+  pub row-start-room : RowRoom c k b l → place c k + length (rowCells c r (k .g) k) ≤ length b
+  row-start-room h = rw q (h .starts-room)
+
+  pub row-start-stored : (b′ : List ℕ) → b′ ≡ put b (place c k) (rowCells c r (k .g) k) → b′ ≡ put b (place c k) (rowCells c (k .g - k .long) (k .g) k)
+  row-start-stored b′ e = rw q at e
+
+-- ---- a row where there are no columns
+row-bare : (c v z : ℕ) (k : Counts) → c ≡ 0 → Narrow c k → rowCells c v z k ≡ []
+unfolding rowCells openCell absentCells opened
+row-bare c v z k e h = on (k .tag) (k .n) (omega (arith, h .fits))
+  where
+    on : (t : Bool) (n : ℕ) → opened t ≤ 0 → openCell n t v ++ absentCells n (c - (k .tags + opened t)) z ≡ []
+    on t zero l = refl
+    on true (suc n) l = absurd (omega arith)
+    on false (suc n) l = let f : c - (k .tags + 0) ≡ 0 = omega arith in rw f
+
+module _ (c : ℕ) (k : Counts) (b l : List ℕ) (e : c ≡ 0) (h : RowRoom c k b l) where
+  pub bare-starts : b ≡ put b (place c k) (rowCells c (k .g - k .long) (k .g) k)
+  bare-starts = rw (row-bare c (k .g - k .long) (k .g) k e (h .narrow))
+
+  pub bare-lengths : l ≡ put l (place c k) (rowCells c (k .long) 0 k)
+  bare-lengths = rw (row-bare c (k .long) 0 k e (h .narrow))

@@ -1,7 +1,8 @@
 -- What each act of a line stores in each of the eight buffers, and where.
-use Prim.Native.Nat.{ℕ, zero, suc, _+_, _-_, _≤_}
+use Prim.Native.Nat.{ℕ, zero, suc, _+_, _-_, _*_, _≤_}
 use mathlib.Core.Path.{_≡_}
-use mathlib.Core.List.{List, [], _∷_}
+use mathlib.Core.Bool.{Bool, true, false}
+use mathlib.Core.List.{List, [], _∷_, _++_}
 use lib.ListN.{length, take, drop, replicate}
 use Rattle.laws.specs.Put.{put}
 use Rattle.utf8.specs.Utf8.{width, encode}
@@ -10,32 +11,40 @@ use Rattle.sentence.specs.Sentence.{Mark, code}
 use Rattle.sentence.specs.Reading.{Act, skip, letter, opens, ofTag}
 use Rattle.sheet.specs.Layout.{Buffers}
 use Rattle.counts.specs.declared.Counts.{Counts}
-use Rattle.counts.specs.declared.Open.{Open}
-use Rattle.counts.specs.declared.Open.the-variants.{No, Empty, Present}
-use Rattle.counts.specs.Counts.{Small, ends}
+use Rattle.counts.specs.Counts.{Small, opened}
 
 -- a value for the character before, where n of them were read
 unfoldable pub later : ℕ → ℕ → List ℕ
 later zero v = []
 later (suc n) v = v ∷ []
 
--- a present tag ends where g tag bytes were read
-unfoldable pub closes : Open → ℕ → List ℕ
-closes No g = []
-closes Empty g = []
-closes Present g = g ∷ []
+-- where the next cell goes, where n characters were read, t tags of the last were closed, and each has c cells
+unfoldable pub spot : ℕ → ℕ → ℕ → ℕ
+spot c zero t = 0
+spot c (suc n) t = n * c + t
 
--- the empty tags before one that becomes present end where it starts
-unfoldable pub passed : Open → ℕ → ℕ → List ℕ
-passed No gaps g = []
-passed Empty gaps g = replicate gaps g
-passed Present gaps g = []
+abbrev pub place : ℕ → Counts → ℕ
+place c k = spot c (k .n) (k .tags)
+
+-- the value of the open tag's cell
+unfoldable pub openCell : ℕ → Bool → ℕ → List ℕ
+openCell zero o v = []
+openCell (suc n) true v = v ∷ []
+openCell (suc n) false v = []
+
+-- the value of j absent cells
+unfoldable pub absentCells : ℕ → ℕ → ℕ → List ℕ
+absentCells zero j v = []
+absentCells (suc n) j v = replicate j v
+
+-- the rest of a row of c cells: the open tag's, with the value v, and absent ones, with the value z
+unfoldable pub rowCells : ℕ → ℕ → ℕ → Counts → List ℕ
+rowCells c v z k = openCell (k .n) (k .tag) v ++ absentCells (k .n) (c - (k .tags + opened (k .tag))) z
 
 -- the bytes of a character of the open tag
-unfoldable pub kept : Open → List ℕ → List ℕ
-kept No x = []
-kept Empty x = x
-kept Present x = x
+unfoldable pub kept : Bool → List ℕ → List ℕ
+kept true x = x
+kept false x = []
 
 -- a character of the text stores this, any other act nothing
 unfoldable pub onLetter : (Mark → ℕ → List ℕ) → Act → List ℕ
@@ -44,22 +53,18 @@ onLetter f (letter m c) = f m c
 onLetter f opens = []
 onLetter f (ofTag c) = []
 
--- a tag ends where a character or another tag follows; the first character of an empty one lists those before it
-unfoldable pub tagEnd : Act → Counts → List ℕ
-tagEnd skip k = []
-tagEnd (letter m c) k = closes (k .tag) (k .g)
-tagEnd opens k = closes (k .tag) (k .g)
-tagEnd (ofTag c) k = passed (k .tag) (k .gaps) (k .g)
+-- a cell is stored where its tag ends: where another follows, or with its row where a character follows
+unfoldable pub cellsAt : ℕ → ℕ → ℕ → Act → Counts → List ℕ
+cellsAt c v z skip k = []
+cellsAt c v z (letter m d) k = rowCells c v z k
+cellsAt c v z opens k = openCell (k .n) (k .tag) v
+cellsAt c v z (ofTag d) k = []
 
 unfoldable pub tagByte : Act → Counts → List ℕ
 tagByte skip k = []
 tagByte (letter m c) k = []
 tagByte opens k = []
 tagByte (ofTag c) k = kept (k .tag) (encode c)
-
--- where the row of the character before ends
-unfoldable pub rowEnd : Counts → List ℕ
-rowEnd k = later (k .n) (k .k + ends (k .tag))
 
 -- a buffer's part: where the next value goes, what an act stores there, and what the line's end stores there
 pub record Part : Type 0 where
@@ -82,35 +87,36 @@ charPosPart = record { index = λ k. k .n; emit = λ a k. onLetter (λ m c. k .b
 unfoldable pub bytePosPart : Part
 bytePosPart = record { index = λ k. k .b; emit = λ a k. onLetter (λ m c. k .n ∷ replicate (width c - 1) 0) a; last = λ k. k .n ∷ [] }
 
-unfoldable pub rowEndsPart : Part
-rowEndsPart = record { index = λ k. k .n - 1; emit = λ a k. onLetter (λ m c. rowEnd k) a; last = rowEnd }
+-- the open tag starts behind the tag bytes before its own, an absent one behind all
+unfoldable pub cellStartsPart : ℕ → Part
+cellStartsPart c = record { index = place c; emit = λ a k. cellsAt c (k .g - k .long) (k .g) a k; last = λ k. rowCells c (k .g - k .long) (k .g) k }
 
-unfoldable pub tagEndsPart : Part
-tagEndsPart = record { index = λ k. k .k; emit = tagEnd; last = λ k. closes (k .tag) (k .g) }
+unfoldable pub cellLengthsPart : ℕ → Part
+cellLengthsPart c = record { index = place c; emit = λ a k. cellsAt c (k .long) 0 a k; last = λ k. rowCells c (k .long) 0 k }
 
 unfoldable pub tagBytesPart : Part
 tagBytesPart = record { index = λ k. k .g; emit = tagByte; last = λ k. [] }
 
 -- the buffers e are d with what w says stored in each part
-pub record Stored (w : Part → List ℕ) (k : Counts) (d e : Buffers) : Type 0 where
+pub record Stored (c : ℕ) (w : Part → List ℕ) (k : Counts) (d e : Buffers) : Type 0 where
   pub text-is : e .text-buf ≡ put (d .text-buf) (textPart .index k) (w textPart)
   pub types-is : e .types-buf ≡ put (d .types-buf) (typesPart .index k) (w typesPart)
   pub boundaries-is : e .boundaries-buf ≡ put (d .boundaries-buf) (boundariesPart .index k) (w boundariesPart)
   pub char-pos-is : e .char-pos-buf ≡ put (d .char-pos-buf) (charPosPart .index k) (w charPosPart)
   pub byte-pos-is : e .byte-pos-buf ≡ put (d .byte-pos-buf) (bytePosPart .index k) (w bytePosPart)
-  pub row-ends-is : e .row-ends-buf ≡ put (d .row-ends-buf) (rowEndsPart .index k) (w rowEndsPart)
-  pub tag-ends-is : e .tag-ends-buf ≡ put (d .tag-ends-buf) (tagEndsPart .index k) (w tagEndsPart)
+  pub cell-starts-is : e .cell-starts-buf ≡ put (d .cell-starts-buf) (cellStartsPart c .index k) (w (cellStartsPart c))
+  pub cell-lengths-is : e .cell-lengths-buf ≡ put (d .cell-lengths-buf) (cellLengthsPart c .index k) (w (cellLengthsPart c))
   pub tag-bytes-is : e .tag-bytes-buf ≡ put (d .tag-bytes-buf) (tagBytesPart .index k) (w tagBytesPart)
 
 -- there is room for it
-pub record Room (w : Part → List ℕ) (k : Counts) (d : Buffers) : Type 0 where
+pub record Room (c : ℕ) (w : Part → List ℕ) (k : Counts) (d : Buffers) : Type 0 where
   pub text-room : textPart .index k + length (w textPart) ≤ length (d .text-buf)
   pub types-room : typesPart .index k + length (w typesPart) ≤ length (d .types-buf)
   pub boundaries-room : boundariesPart .index k + length (w boundariesPart) ≤ length (d .boundaries-buf)
   pub char-pos-room : charPosPart .index k + length (w charPosPart) ≤ length (d .char-pos-buf)
   pub byte-pos-room : bytePosPart .index k + length (w bytePosPart) ≤ length (d .byte-pos-buf)
-  pub row-ends-room : rowEndsPart .index k + length (w rowEndsPart) ≤ length (d .row-ends-buf)
-  pub tag-ends-room : tagEndsPart .index k + length (w tagEndsPart) ≤ length (d .tag-ends-buf)
+  pub cell-starts-room : cellStartsPart c .index k + length (w (cellStartsPart c)) ≤ length (d .cell-starts-buf)
+  pub cell-lengths-room : cellLengthsPart c .index k + length (w (cellLengthsPart c)) ≤ length (d .cell-lengths-buf)
   pub tag-bytes-room : tagBytesPart .index k + length (w tagBytesPart) ≤ length (d .tag-bytes-buf)
 
 -- an act's character is that of n bytes of the line
@@ -120,25 +126,42 @@ Bytes (letter m c) x = x ≡ encode c
 Bytes opens x = Unit {0}
 Bytes (ofTag c) x = x ≡ encode c
 
--- what an act needs that is stored: counts no larger than a line, its character at a place of the line, and room
-pub record Turning (a : Act) (k : Counts) (line : List ℕ) (at n : ℕ) (d : Buffers) : Type 0 where
+-- the last character has at most c tags
+pub record Narrow (c : ℕ) (k : Counts) : Type 0 where
+  pub few : c ≤ 4096
+  pub fits : k .tags + opened (k .tag) ≤ c
+
+-- room in both lists of cells for the open tag's, and for the rest of its row
+pub record CellRoom (c : ℕ) (k : Counts) (b l : List ℕ) : Type 0 where
   pub small : Small k 4096
+  pub narrow : Narrow c k
+  pub starts-room : place c k + length (openCell (k .n) (k .tag) (k .g - k .long)) ≤ length b
+  pub lengths-room : place c k + length (openCell (k .n) (k .tag) (k .long)) ≤ length l
+
+pub record RowRoom (c : ℕ) (k : Counts) (b l : List ℕ) : Type 0 where
+  pub small : Small k 4096
+  pub narrow : Narrow c k
+  pub starts-room : place c k + length (rowCells c (k .g - k .long) (k .g) k) ≤ length b
+  pub lengths-room : place c k + length (rowCells c (k .long) 0 k) ≤ length l
+
+-- what an act needs that is stored: counts no larger than a line, its character at a place of the line, and room
+pub record Turning (c : ℕ) (a : Act) (k : Counts) (line : List ℕ) (at n : ℕ) (d : Buffers) : Type 0 where
+  pub small : Small k 4096
+  pub narrow : Narrow c k
   pub some : 1 ≤ n
   pub few : n ≤ 4
   pub within : at + n ≤ length line
   pub bytes : Bytes a (take n (drop at line))
-  pub room : Room (λ p. p .emit a k) k d
+  pub room : Room c (λ p. p .emit a k) k d
 
 -- what the line's end needs, of the four buffers that it stores in, and what it leaves in them
-pub record Finishing (k : Counts) (c b r e : List ℕ) : Type 0 where
-  pub small : Small k 4096
-  pub char-pos-room : k .n + 1 ≤ length c
+pub record Finishing (c : ℕ) (k : Counts) (p b w e : List ℕ) : Type 0 where
+  pub char-pos-room : k .n + 1 ≤ length p
   pub byte-pos-room : k .b + 1 ≤ length b
-  pub row-ends-room : k .n - 1 + length (rowEnd k) ≤ length r
-  pub tag-ends-room : k .k + length (closes (k .tag) (k .g)) ≤ length e
+  pub row-room : RowRoom c k w e
 
-pub record Finished (k : Counts) (c b r e c′ b′ r′ e′ : List ℕ) : Type 0 where
-  pub char-pos-is : c′ ≡ put c (k .n) (k .b ∷ [])
+pub record Finished (c : ℕ) (k : Counts) (p b w e p′ b′ w′ e′ : List ℕ) : Type 0 where
+  pub char-pos-is : p′ ≡ put p (k .n) (k .b ∷ [])
   pub byte-pos-is : b′ ≡ put b (k .b) (k .n ∷ [])
-  pub row-ends-is : r′ ≡ put r (k .n - 1) (rowEnd k)
-  pub tag-ends-is : e′ ≡ put e (k .k) (closes (k .tag) (k .g))
+  pub cell-starts-is : w′ ≡ put w (place c k) (rowCells c (k .g - k .long) (k .g) k)
+  pub cell-lengths-is : e′ ≡ put e (place c k) (rowCells c (k .long) 0 k)

@@ -1,6 +1,5 @@
 // One act of a line stored, and the line's end, where there is room.
 use counts::Counts;
-use counts::Open;
 use reader::Act;
 use reader::Mark;
 use reader::Stepped;
@@ -14,7 +13,7 @@ ghost use Rattle.sentence.specs.Sentence.{code};
 ghost use Rattle.sheet.specs.Layout.{buffers};
 ghost use Rattle.reader.specs.Flags.{markOf, actOf};
 ghost use Rattle.counts.specs.Counts.{Small};
-ghost use Rattle.stores.specs.Parts.{later, closes, passed, kept, rowEnd, Stored, Turning, Finishing, Finished};
+ghost use Rattle.stores.specs.Parts.{later, place, openCell, rowCells, kept, Narrow, CellRoom, RowRoom, Stored, Turning, Finishing, Finished};
 
 // A character's bytes, from one place to another.
 fn copy(from: &[u8], at: usize, len: usize, to: &mut [u8], b: usize)
@@ -67,62 +66,85 @@ fn boundary(n: usize, m: Mark, boundaries: &mut [u8])
     boundaries[n - 1] = m.code();
 }
 
-// Where the row of the character before ends, where there is one.
-fn end_row(k: Counts, row_ends: &mut [u16])
-    requires { ⌜ Small k 4096 × (k .n - 1 + length (rowEnd k) ≤ length (now «row_ends»)) ⌝ }
-    ensures { λ _. ⌜ now («row_ends» .exit) ≡ put (now («row_ends» .entry)) (k .n - 1) (rowEnd k) ⌝ }
+// Where the next cell goes.
+fn place(k: Counts, columns: usize) -> usize
+    requires { ⌜ Small k 4096 × Narrow columns k ⌝ }
+    ensures { λ r. ⌜ r ≡ place columns k ⌝ }
 {
     let n = k.n;
-    let tag = k.tag;
-    let end = (k.k + tag.ends()) as u16;
     if n == 0 {
+        return 0;
+    }
+    (n - 1) * columns + k.tags as usize
+}
+
+// The open tag's cell, in one of the lists of cells.
+fn end_cell(k: Counts, columns: usize, value: u16, cells: &mut [u16])
+    requires { ⌜ Small k 4096 × Narrow columns k × (place columns k + length (openCell (k .n) (k .tag) value) ≤ length (now cells)) ⌝ }
+    ensures { λ _. ⌜ now (cells .exit) ≡ put (now (cells .entry)) (place columns k) (openCell (k .n) (k .tag) value) ⌝ }
+{
+    let at = place(k, columns);
+    if k.n == 0 {
         return;
     }
-    row_ends[n - 1] = end;
-}
-
-// Where the open tag ends, if it is present.
-fn end_tag(k: Counts, tag_ends: &mut [u16])
-    requires { ⌜ Small k 4096 × (k .k + length (closes (k .tag) (k .g)) ≤ length (now «tag_ends»)) ⌝ }
-    ensures { λ _. ⌜ now («tag_ends» .exit) ≡ put (now («tag_ends» .entry)) (k .k) (closes (k .tag) (k .g)) ⌝ }
-{
-    let at = k.k;
-    let tag = k.tag;
-    let g = k.g as u16;
-    match tag {
-        Open::No => {}
-        Open::Empty => {}
-        Open::Present => {
-            tag_ends[at] = g;
-        }
+    if k.tag {
+        cells[at] = value;
     }
 }
 
-// The same end for some empty tags.
-fn repeat(end: usize, times: usize, tag_ends: &mut [u16], at: usize)
-    requires { ⌜ (end ≤ 4096) × (at + times ≤ length (now «tag_ends»)) ⌝ }
-    ensures { λ _. ⌜ now («tag_ends» .exit) ≡ put (now («tag_ends» .entry)) at (replicate times end) ⌝ }
+// The same value some times.
+fn repeat(value: u16, times: usize, cells: &mut [u16], at: usize)
+    requires { ⌜ at + times ≤ length (now cells) ⌝ }
+    ensures { λ _. ⌜ now (cells .exit) ≡ put (now (cells .entry)) at (replicate times value) ⌝ }
 {
     let mut i = 0;
     while i < times {
-        tag_ends[at + i] = end as u16;
+        cells[at + i] = value;
         i += 1;
     }
 }
 
-// The empty tags before one that becomes present.
-fn pass_tags(k: Counts, tag_ends: &mut [u16])
-    requires { ⌜ Small k 4096 × (k .k + length (passed (k .tag) (k .gaps) (k .g)) ≤ length (now «tag_ends»)) ⌝ }
-    ensures { λ _. ⌜ now («tag_ends» .exit) ≡ put (now («tag_ends» .entry)) (k .k) (passed (k .tag) (k .gaps) (k .g)) ⌝ }
+// The rest of the row of the character before, in one of the lists of cells: the open tag's cell, and absent ones.
+fn end_cells(k: Counts, columns: usize, value: u16, absent: u16, cells: &mut [u16])
+    requires { ⌜ Small k 4096 × Narrow columns k × (place columns k + length (rowCells columns value absent k) ≤ length (now cells)) ⌝ }
+    ensures { λ _. ⌜ now (cells .exit) ≡ put (now (cells .entry)) (place columns k) (rowCells columns value absent k) ⌝ }
 {
-    let tag = k.tag;
-    match tag {
-        Open::No => {}
-        Open::Empty => {
-            repeat(k.g, k.gaps as usize, tag_ends, k.k);
-        }
-        Open::Present => {}
+    end_cell(k, columns, value, cells);
+    if k.n == 0 {
+        return;
     }
+    let open = counts::given::opened(k.tag) as usize;
+    let at = place(k, columns) + open;
+    repeat(absent, columns - (k.tags as usize + open), cells, at);
+}
+
+// Where the open tag starts among the tag bytes.
+fn start(k: Counts) -> u16
+    requires { ⌜ Small k 4096 ⌝ }
+    ensures { λ r. ⌜ r ≡ k .g - k .long ⌝ }
+{
+    (k.g - k.long as usize) as u16
+}
+
+// The open tag ends.
+fn end_tag(k: Counts, columns: usize, cell_starts: &mut [u16], cell_lengths: &mut [u16])
+    requires { ⌜ CellRoom columns k (now «cell_starts») (now «cell_lengths») ⌝ }
+    ensures { λ _. ⌜ (now («cell_starts» .exit) ≡ put (now («cell_starts» .entry)) (place columns k) (openCell (k .n) (k .tag) (k .g - k .long))) × (now («cell_lengths» .exit) ≡ put (now («cell_lengths» .entry)) (place columns k) (openCell (k .n) (k .tag) (k .long))) ⌝ }
+{
+    end_cell(k, columns, start(k), cell_starts);
+    end_cell(k, columns, k.long, cell_lengths);
+}
+
+// The row of the character before ends.
+fn end_row(k: Counts, columns: usize, cell_starts: &mut [u16], cell_lengths: &mut [u16])
+    requires { ⌜ RowRoom columns k (now «cell_starts») (now «cell_lengths») ⌝ }
+    ensures { λ _. ⌜ (now («cell_starts» .exit) ≡ put (now («cell_starts» .entry)) (place columns k) (rowCells columns (k .g - k .long) (k .g) k)) × (now («cell_lengths» .exit) ≡ put (now («cell_lengths» .entry)) (place columns k) (rowCells columns (k .long) 0 k)) ⌝ }
+{
+    if columns == 0 {
+        return;
+    }
+    end_cells(k, columns, start(k), k.g as u16, cell_starts);
+    end_cells(k, columns, k.long, 0, cell_lengths);
 }
 
 // A character of the open tag.
@@ -130,15 +152,8 @@ fn keep(k: Counts, from: &[u8], at: usize, len: usize, tag_bytes: &mut [u8])
     requires { ⌜ (1 ≤ len) × (len ≤ 4) × (at + len ≤ length (now from)) × (k .g + length (kept (k .tag) (take len (drop at (now from)))) ≤ length (now «tag_bytes»)) ⌝ }
     ensures { λ _. ⌜ now («tag_bytes» .exit) ≡ put (now («tag_bytes» .entry)) (k .g) (kept (k .tag) (take len (drop at (now (from .entry))))) ⌝ }
 {
-    let tag = k.tag;
-    match tag {
-        Open::No => {}
-        Open::Empty => {
-            copy(from, at, len, tag_bytes, k.g);
-        }
-        Open::Present => {
-            copy(from, at, len, tag_bytes, k.g);
-        }
+    if k.tag {
+        copy(from, at, len, tag_bytes, k.g);
     }
 }
 
@@ -146,6 +161,7 @@ fn keep(k: Counts, from: &[u8], at: usize, len: usize, tag_bytes: &mut [u8])
 pub fn turn<'a>(
     s: Stepped,
     k: Counts,
+    columns: usize,
     line: &[u8],
     at: usize,
     len: usize,
@@ -156,12 +172,12 @@ pub fn turn<'a>(
     boundaries: &mut [u8],
     char_pos: &mut [u16],
     byte_pos: &mut [u16],
-    row_ends: &mut [u16],
-    tag_ends: &mut [u16],
+    cell_starts: &mut [u16],
+    cell_lengths: &mut [u16],
     tag_bytes: &mut [u8],
 )
-    requires { ⌜ Right (now index) (now blocks) × Turning (actOf s) k (now line) at len (buffers (now text) (now types) (now boundaries) (now «char_pos») (now «byte_pos») (now «row_ends») (now «tag_ends») (now «tag_bytes»)) ⌝ }
-    ensures { λ _. ⌜ Stored (λ p. p .emit (actOf s) k) k (buffers (now (text .entry)) (now (types .entry)) (now (boundaries .entry)) (now («char_pos» .entry)) (now («byte_pos» .entry)) (now («row_ends» .entry)) (now («tag_ends» .entry)) (now («tag_bytes» .entry))) (buffers (now (text .exit)) (now (types .exit)) (now (boundaries .exit)) (now («char_pos» .exit)) (now («byte_pos» .exit)) (now («row_ends» .exit)) (now («tag_ends» .exit)) (now («tag_bytes» .exit))) ⌝ }
+    requires { ⌜ Right (now index) (now blocks) × Turning columns (actOf s) k (now line) at len (buffers (now text) (now types) (now boundaries) (now «char_pos») (now «byte_pos») (now «cell_starts») (now «cell_lengths») (now «tag_bytes»)) ⌝ }
+    ensures { λ _. ⌜ Stored columns (λ p. p .emit (actOf s) k) k (buffers (now (text .entry)) (now (types .entry)) (now (boundaries .entry)) (now («char_pos» .entry)) (now («byte_pos» .entry)) (now («cell_starts» .entry)) (now («cell_lengths» .entry)) (now («tag_bytes» .entry))) (buffers (now (text .exit)) (now (types .exit)) (now (boundaries .exit)) (now («char_pos» .exit)) (now («byte_pos» .exit)) (now («cell_starts» .exit)) (now («cell_lengths» .exit)) (now («tag_bytes» .exit))) ⌝ }
 {
     let act = s.act;
     match act {
@@ -175,14 +191,12 @@ pub fn turn<'a>(
             boundary(n, mark, boundaries);
             char_pos[n] = b as u16;
             number(n, b, len, byte_pos);
-            end_row(k, row_ends);
-            end_tag(k, tag_ends);
+            end_row(k, columns, cell_starts, cell_lengths);
         }
         Act::Opens => {
-            end_tag(k, tag_ends);
+            end_tag(k, columns, cell_starts, cell_lengths);
         }
         Act::OfTag => {
-            pass_tags(k, tag_ends);
             keep(k, line, at, len, tag_bytes);
         }
     }
@@ -191,18 +205,18 @@ pub fn turn<'a>(
 // The line's end.
 pub fn finish(
     k: Counts,
+    columns: usize,
     char_pos: &mut [u16],
     byte_pos: &mut [u16],
-    row_ends: &mut [u16],
-    tag_ends: &mut [u16],
+    cell_starts: &mut [u16],
+    cell_lengths: &mut [u16],
 )
-    requires { ⌜ Finishing k (now «char_pos») (now «byte_pos») (now «row_ends») (now «tag_ends») ⌝ }
-    ensures { λ _. ⌜ Finished k (now («char_pos» .entry)) (now («byte_pos» .entry)) (now («row_ends» .entry)) (now («tag_ends» .entry)) (now («char_pos» .exit)) (now («byte_pos» .exit)) (now («row_ends» .exit)) (now («tag_ends» .exit)) ⌝ }
+    requires { ⌜ Finishing columns k (now «char_pos») (now «byte_pos») (now «cell_starts») (now «cell_lengths») ⌝ }
+    ensures { λ _. ⌜ Finished columns k (now («char_pos» .entry)) (now («byte_pos» .entry)) (now («cell_starts» .entry)) (now («cell_lengths» .entry)) (now («char_pos» .exit)) (now («byte_pos» .exit)) (now («cell_starts» .exit)) (now («cell_lengths» .exit)) ⌝ }
 {
     let n = k.n;
     let b = k.b;
     char_pos[n] = b as u16;
     byte_pos[b] = n as u16;
-    end_row(k, row_ends);
-    end_tag(k, tag_ends);
+    end_row(k, columns, cell_starts, cell_lengths);
 }

@@ -4,7 +4,7 @@ use mathlib.Core.Path.{_≡_, refl, sym, ap, _∙_}
 use mathlib.Core.Bool.{Bool, true, false}
 use mathlib.Core.List.{List, [], _∷_, _++_, map}
 use native.Mathlib.Omega.{arith}
-use lib.ListN.{length, getD, length-append}
+use lib.ListN.{length, length-append}
 use Rattle.utf8.specs.Utf8.{encodes}
 use Rattle.utf8.proofs.Codec.{encodes-append}
 use Rattle.sentence.specs.Sentence.{Sentence, marks}
@@ -19,10 +19,9 @@ use Rattle.tokens.specs.declared.Step.the-variants.{Serves, Done}
 use Rattle.tokens.specs.Steps.{stepOf, marksIn, Bounded}
 use Rattle.tokens.proofs.Cursor.{following, of-done, marks-long}
 use Rattle.tokens.proofs.Held.{marks-held, bounded-held}
-use Rattle.lookups.specs.Answers.{edge}
 use Rattle.escape.specs.Wrote.{Wrote, Lined, lined, Writing, write-start, write-part, write-fits, write-done}
 use Rattle.pieces.specs.Pieces.{RowLies, TextLies, tokenLine}
-use Rattle.pieces.proofs.Held.{text-lies, row-lies, row-narrow, token-line}
+use Rattle.pieces.proofs.Held.{text-lies, row-lies, token-line}
 use Rattle.pieces.proofs.Room.{limited, most-few}
 use Rattle.tokenized.specs.Gaps.{gap, spaced}
 use Rattle.tokenized.proofs.Most.{encodes-gap, line-spaced, line-most}
@@ -37,7 +36,7 @@ left-start s = line-spaced s
 
 -- a token of a sheet as it is written
 abbrev pub tokenIn : Record → Buffers → ℕ → ℕ → List ℕ
-tokenIn r d b e = tokenLine (r .columns) (d .text-buf) (d .char-pos-buf) (d .row-ends-buf) (d .tag-ends-buf) (d .tag-bytes-buf) b e
+tokenIn r d b e = tokenLine (r .columns) (d .text-buf) (d .char-pos-buf) (d .cell-starts-buf) (d .cell-lengths-buf) (d .tag-bytes-buf) b e
 
 -- the step at p serves the token from b up to e
 pub record Comes (r : Record) (d : Buffers) (p b e : ℕ) : Type 0 where
@@ -85,7 +84,7 @@ module _ {r : Record} {d : Buffers} {out₀ out : List ℕ} {n p : ℕ} {some : 
       behind : Writing out₀ 0 (written tokenized (spell r d)) o₁ n₁ (tokenIn r d b e ++ leftFrom (spell r d) true e)
       behind = write-part (t .writing) (left-next (t .sheet) some p f) v
 
-      pub token-asks : (1 ≤ e) × TextLies (d .char-pos-buf) (d .text-buf) b e × RowLies (d .row-ends-buf) (d .tag-ends-buf) (d .tag-bytes-buf) (e - 1) × (n₁ + length (tokenIn r d b e) ≤ length o₁)
+      pub token-asks : (1 ≤ e) × TextLies (d .char-pos-buf) (d .text-buf) b e × RowLies (d .cell-starts-buf) (d .cell-lengths-buf) (d .tag-bytes-buf) (r .columns) (e - 1) × (n₁ + length (tokenIn r d b e) ≤ length o₁)
       token-asks = (omega arith, text-lies (t .sheet) b e (omega arith) (f .within), row-lies (t .sheet) (e - 1) (omega arith), write-fits behind (tokenIn r d b e) _ refl)
 
       pub token-next : {o₂ : List ℕ} {n₂ : ℕ} → Wrote o₁ n₁ (tokenIn r d b e) o₂ n₂ → Tokening r d out₀ o₂ n₂ e true
@@ -114,9 +113,9 @@ module _ {r : Record} {d : Buffers} {sum p : ℕ} {some : Bool} (t : Summing r d
     parts : sum + (length (gap some) + (length (tokenIn r d b e) + length (leftFrom (spell r d) true e))) ≡ length (written tokenized (spell r d))
     parts = omega (arith, t .same, ap length (left-next (t .sheet) some p f), length-append (gap some) (tokenIn r d b e ++ leftFrom (spell r d) true e), length-append (tokenIn r d b e) (leftFrom (spell r d) true e))
 
-    pub sum-asks : (1 ≤ e) × TextLies (d .char-pos-buf) (d .text-buf) b e × RowLies (d .row-ends-buf) (d .tag-ends-buf) (d .tag-bytes-buf) (e - 1)
-        × (getD (d .row-ends-buf) (e - 1) 0 ≤ edge (d .row-ends-buf) (e - 1) + r .columns) × (length (tokenIn r d b e) < 2 ^ 32)
-    sum-asks = (omega arith, text-lies (t .sheet) b e (omega arith) (f .within), row-lies (t .sheet) (e - 1) (omega arith), row-narrow (t .sheet) (e - 1) (omega arith), omega (arith, parts, t .few))
+    pub sum-asks : (1 ≤ e) × TextLies (d .char-pos-buf) (d .text-buf) b e × RowLies (d .cell-starts-buf) (d .cell-lengths-buf) (d .tag-bytes-buf) (r .columns) (e - 1)
+        × (length (tokenIn r d b e) < 2 ^ 32)
+    sum-asks = (omega arith, text-lies (t .sheet) b e (omega arith) (f .within), row-lies (t .sheet) (e - 1) (omega arith), omega (arith, parts, t .few))
 
     -- the sums are small
     module _ {g : ℕ} (x : g ≡ length (gap some)) where

@@ -46,12 +46,12 @@ pub fn tokenized_len(
     boundaries: &[u8],
     char_pos: &[u16],
     byte_pos: &[u16],
-    row_ends: &[u16],
-    tag_ends: &[u16],
+    cell_starts: &[u16],
+    cell_lengths: &[u16],
     tag_bytes: &[u8],
 ) -> usize
-    requires { ⌜ Sheet r (buffers (now text) (now types) (now boundaries) (now «char_pos») (now «byte_pos») (now «row_ends») (now «tag_ends») (now «tag_bytes»)) ⌝ }
-    ensures { λ a. ⌜ a ≡ length (written tokenized (spell r (buffers (now (text .entry)) (now (types .entry)) (now (boundaries .entry)) (now («char_pos» .entry)) (now («byte_pos» .entry)) (now («row_ends» .entry)) (now («tag_ends» .entry)) (now («tag_bytes» .entry))))) ⌝ }
+    requires { ⌜ Sheet r (buffers (now text) (now types) (now boundaries) (now «char_pos») (now «byte_pos») (now «cell_starts») (now «cell_lengths») (now «tag_bytes»)) ⌝ }
+    ensures { λ a. ⌜ a ≡ length (written tokenized (spell r (buffers (now (text .entry)) (now (types .entry)) (now (boundaries .entry)) (now («char_pos» .entry)) (now («byte_pos» .entry)) (now («cell_starts» .entry)) (now («cell_lengths» .entry)) (now («tag_bytes» .entry))))) ⌝ }
 {
     let mut sum = 0;
     let mut p = 0;
@@ -65,8 +65,8 @@ pub fn tokenized_len(
                 sum += token_len(
                     text,
                     char_pos,
-                    row_ends,
-                    tag_ends,
+                    cell_starts,
+                    cell_lengths,
                     tag_bytes,
                     b,
                     e,
@@ -90,13 +90,13 @@ pub fn tokenized_short(
     boundaries: &[u8],
     char_pos: &[u16],
     byte_pos: &[u16],
-    row_ends: &[u16],
-    tag_ends: &[u16],
+    cell_starts: &[u16],
+    cell_lengths: &[u16],
     tag_bytes: &[u8],
     room: usize,
 ) -> usize
-    requires { ⌜ Sheet r (buffers (now text) (now types) (now boundaries) (now «char_pos») (now «byte_pos») (now «row_ends») (now «tag_ends») (now «tag_bytes»)) ⌝ }
-    ensures { λ a. ⌜ a ≡ shortOf room (length (written tokenized (spell r (buffers (now (text .entry)) (now (types .entry)) (now (boundaries .entry)) (now («char_pos» .entry)) (now («byte_pos» .entry)) (now («row_ends» .entry)) (now («tag_ends» .entry)) (now («tag_bytes» .entry)))))) ⌝ }
+    requires { ⌜ Sheet r (buffers (now text) (now types) (now boundaries) (now «char_pos») (now «byte_pos») (now «cell_starts») (now «cell_lengths») (now «tag_bytes»)) ⌝ }
+    ensures { λ a. ⌜ a ≡ shortOf room (length (written tokenized (spell r (buffers (now (text .entry)) (now (types .entry)) (now (boundaries .entry)) (now («char_pos» .entry)) (now («byte_pos» .entry)) (now («cell_starts» .entry)) (now («cell_lengths» .entry)) (now («tag_bytes» .entry)))))) ⌝ }
 {
     if most(r) <= room {
         return 0;
@@ -108,8 +108,8 @@ pub fn tokenized_short(
         boundaries,
         char_pos,
         byte_pos,
-        row_ends,
-        tag_ends,
+        cell_starts,
+        cell_lengths,
         tag_bytes,
     );
     if room < needed {
@@ -126,13 +126,13 @@ pub fn tokenized_into(
     boundaries: &[u8],
     char_pos: &[u16],
     byte_pos: &[u16],
-    row_ends: &[u16],
-    tag_ends: &[u16],
+    cell_starts: &[u16],
+    cell_lengths: &[u16],
     tag_bytes: &[u8],
     out: &mut [u8],
 ) -> usize
-    requires { ⌜ Sheet r (buffers (now text) (now types) (now boundaries) (now «char_pos») (now «byte_pos») (now «row_ends») (now «tag_ends») (now «tag_bytes»)) × (length (written tokenized (spell r (buffers (now text) (now types) (now boundaries) (now «char_pos») (now «byte_pos») (now «row_ends») (now «tag_ends») (now «tag_bytes»)))) ≤ length (now out)) ⌝ }
-    ensures { λ a. ⌜ Lined (written tokenized (spell r (buffers (now (text .entry)) (now (types .entry)) (now (boundaries .entry)) (now («char_pos» .entry)) (now («byte_pos» .entry)) (now («row_ends» .entry)) (now («tag_ends» .entry)) (now («tag_bytes» .entry))))) (now (out .entry)) (now (out .exit)) a ⌝ }
+    requires { ⌜ Sheet r (buffers (now text) (now types) (now boundaries) (now «char_pos») (now «byte_pos») (now «cell_starts») (now «cell_lengths») (now «tag_bytes»)) × (length (written tokenized (spell r (buffers (now text) (now types) (now boundaries) (now «char_pos») (now «byte_pos») (now «cell_starts») (now «cell_lengths») (now «tag_bytes»)))) ≤ length (now out)) ⌝ }
+    ensures { λ a. ⌜ Lined (written tokenized (spell r (buffers (now (text .entry)) (now (types .entry)) (now (boundaries .entry)) (now («char_pos» .entry)) (now («byte_pos» .entry)) (now («cell_starts» .entry)) (now («cell_lengths» .entry)) (now («tag_bytes» .entry))))) (now (out .entry)) (now (out .exit)) a ⌝ }
 {
     let mut n = 0;
     let mut p = 0;
@@ -146,8 +146,8 @@ pub fn tokenized_into(
                 n = token_into(
                     text,
                     char_pos,
-                    row_ends,
-                    tag_ends,
+                    cell_starts,
+                    cell_lengths,
                     tag_bytes,
                     b,
                     e,

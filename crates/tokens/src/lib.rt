@@ -35,12 +35,12 @@ pub fn next_token(
     boundaries: &[u8],
     char_pos: &[u16],
     byte_pos: &[u16],
-    row_ends: &[u16],
-    tag_ends: &[u16],
+    cell_starts: &[u16],
+    cell_lengths: &[u16],
     tag_bytes: &[u8],
     p: usize,
 ) -> Next
-    ensures { λ a. ⌜ a ≡ nextOf r (buffers (now (text .entry)) (now (types .entry)) (now (boundaries .entry)) (now («char_pos» .entry)) (now («byte_pos» .entry)) (now («row_ends» .entry)) (now («tag_ends» .entry)) (now («tag_bytes» .entry))) p ⌝ }
+    ensures { λ a. ⌜ a ≡ nextOf r (buffers (now (text .entry)) (now (types .entry)) (now (boundaries .entry)) (now («char_pos» .entry)) (now («byte_pos» .entry)) (now («cell_starts» .entry)) (now («cell_lengths» .entry)) (now («tag_bytes» .entry))) p ⌝ }
 {
     if !sheet::check(
         r,
@@ -49,8 +49,8 @@ pub fn next_token(
         boundaries,
         char_pos,
         byte_pos,
-        row_ends,
-        tag_ends,
+        cell_starts,
+        cell_lengths,
         tag_bytes,
     ) {
         return Next::Refused(Refusal {
@@ -69,12 +69,12 @@ fn needed(
     boundaries: &[u8],
     char_pos: &[u16],
     byte_pos: &[u16],
-    row_ends: &[u16],
-    tag_ends: &[u16],
+    cell_starts: &[u16],
+    cell_lengths: &[u16],
     tag_bytes: &[u8],
     room: usize,
 ) -> Number
-    ensures { λ a. ⌜ a ≡ countOf r (buffers (now (text .entry)) (now (types .entry)) (now (boundaries .entry)) (now («char_pos» .entry)) (now («byte_pos» .entry)) (now («row_ends» .entry)) (now («tag_ends» .entry)) (now («tag_bytes» .entry))) room ⌝ }
+    ensures { λ a. ⌜ a ≡ countOf r (buffers (now (text .entry)) (now (types .entry)) (now (boundaries .entry)) (now («char_pos» .entry)) (now («byte_pos» .entry)) (now («cell_starts» .entry)) (now («cell_lengths» .entry)) (now («tag_bytes» .entry))) room ⌝ }
 {
     if !sheet::check(
         r,
@@ -83,8 +83,8 @@ fn needed(
         boundaries,
         char_pos,
         byte_pos,
-        row_ends,
-        tag_ends,
+        cell_starts,
+        cell_lengths,
         tag_bytes,
     ) {
         return Number::Refused(Refusal {
@@ -120,12 +120,12 @@ pub fn token_list(
     boundaries: &[u8],
     char_pos: &[u16],
     byte_pos: &[u16],
-    row_ends: &[u16],
-    tag_ends: &[u16],
+    cell_starts: &[u16],
+    cell_lengths: &[u16],
     tag_bytes: &[u8],
     list: &mut [Token],
 ) -> Number
-    ensures { λ a. ⌜ Listed r (buffers (now (text .entry)) (now (types .entry)) (now (boundaries .entry)) (now («char_pos» .entry)) (now («byte_pos» .entry)) (now («row_ends» .entry)) (now («tag_ends» .entry)) (now («tag_bytes» .entry))) (now (list .entry)) a (now (list .exit)) ⌝ }
+    ensures { λ a. ⌜ Listed r (buffers (now (text .entry)) (now (types .entry)) (now (boundaries .entry)) (now («char_pos» .entry)) (now («byte_pos» .entry)) (now («cell_starts» .entry)) (now («cell_lengths» .entry)) (now («tag_bytes» .entry))) (now (list .entry)) a (now (list .exit)) ⌝ }
 {
     let answer = needed(
         r,
@@ -134,8 +134,8 @@ pub fn token_list(
         boundaries,
         char_pos,
         byte_pos,
-        row_ends,
-        tag_ends,
+        cell_starts,
+        cell_lengths,
         tag_bytes,
         list.len(),
     );

@@ -65,12 +65,12 @@ pub fn write_tokenized_text(
     boundaries: &[u8],
     char_pos: &[u16],
     byte_pos: &[u16],
-    row_ends: &[u16],
-    tag_ends: &[u16],
+    cell_starts: &[u16],
+    cell_lengths: &[u16],
     tag_bytes: &[u8],
     out: &mut [u8],
 ) -> Number
-    ensures { λ a. ⌜ Written tokenized r (buffers (now (text .entry)) (now (types .entry)) (now (boundaries .entry)) (now («char_pos» .entry)) (now («byte_pos» .entry)) (now («row_ends» .entry)) (now («tag_ends» .entry)) (now («tag_bytes» .entry))) (now (out .entry)) a (now (out .exit)) ⌝ }
+    ensures { λ a. ⌜ Written tokenized r (buffers (now (text .entry)) (now (types .entry)) (now (boundaries .entry)) (now («char_pos» .entry)) (now («byte_pos» .entry)) (now («cell_starts» .entry)) (now («cell_lengths» .entry)) (now («tag_bytes» .entry))) (now (out .entry)) a (now (out .exit)) ⌝ }
 {
     if !sheet::check(
         r,
@@ -79,8 +79,8 @@ pub fn write_tokenized_text(
         boundaries,
         char_pos,
         byte_pos,
-        row_ends,
-        tag_ends,
+        cell_starts,
+        cell_lengths,
         tag_bytes,
     ) {
         return no_sheet();
@@ -92,8 +92,8 @@ pub fn write_tokenized_text(
         boundaries,
         char_pos,
         byte_pos,
-        row_ends,
-        tag_ends,
+        cell_starts,
+        cell_lengths,
         tag_bytes,
         out.len(),
     );
@@ -107,8 +107,8 @@ pub fn write_tokenized_text(
         boundaries,
         char_pos,
         byte_pos,
-        row_ends,
-        tag_ends,
+        cell_starts,
+        cell_lengths,
         tag_bytes,
         out,
     );
@@ -123,12 +123,12 @@ pub fn write_partial_annotation_text(
     boundaries: &[u8],
     char_pos: &[u16],
     byte_pos: &[u16],
-    row_ends: &[u16],
-    tag_ends: &[u16],
+    cell_starts: &[u16],
+    cell_lengths: &[u16],
     tag_bytes: &[u8],
     out: &mut [u8],
 ) -> Number
-    ensures { λ a. ⌜ Written partial r (buffers (now (text .entry)) (now (types .entry)) (now (boundaries .entry)) (now («char_pos» .entry)) (now («byte_pos» .entry)) (now («row_ends» .entry)) (now («tag_ends» .entry)) (now («tag_bytes» .entry))) (now (out .entry)) a (now (out .exit)) ⌝ }
+    ensures { λ a. ⌜ Written partial r (buffers (now (text .entry)) (now (types .entry)) (now (boundaries .entry)) (now («char_pos» .entry)) (now («byte_pos» .entry)) (now («cell_starts» .entry)) (now («cell_lengths» .entry)) (now («tag_bytes» .entry))) (now (out .entry)) a (now (out .exit)) ⌝ }
 {
     if !sheet::check(
         r,
@@ -137,8 +137,8 @@ pub fn write_partial_annotation_text(
         boundaries,
         char_pos,
         byte_pos,
-        row_ends,
-        tag_ends,
+        cell_starts,
+        cell_lengths,
         tag_bytes,
     ) {
         return no_sheet();
@@ -150,8 +150,8 @@ pub fn write_partial_annotation_text(
         boundaries,
         char_pos,
         byte_pos,
-        row_ends,
-        tag_ends,
+        cell_starts,
+        cell_lengths,
         tag_bytes,
         out.len(),
     );
@@ -166,8 +166,8 @@ pub fn write_partial_annotation_text(
         boundaries,
         char_pos,
         byte_pos,
-        row_ends,
-        tag_ends,
+        cell_starts,
+        cell_lengths,
         tag_bytes,
         out,
     );
@@ -182,14 +182,14 @@ pub fn write_withheld_text(
     boundaries: &[u8],
     char_pos: &[u16],
     byte_pos: &[u16],
-    row_ends: &[u16],
-    tag_ends: &[u16],
+    cell_starts: &[u16],
+    cell_lengths: &[u16],
     tag_bytes: &[u8],
     start: usize,
     end: usize,
     out: &mut [u8],
 ) -> Number
-    ensures { λ a. ⌜ Withholds r (buffers (now (text .entry)) (now (types .entry)) (now (boundaries .entry)) (now («char_pos» .entry)) (now («byte_pos» .entry)) (now («row_ends» .entry)) (now («tag_ends» .entry)) (now («tag_bytes» .entry))) start end (now (out .entry)) a (now (out .exit)) ⌝ }
+    ensures { λ a. ⌜ Withholds r (buffers (now (text .entry)) (now (types .entry)) (now (boundaries .entry)) (now («char_pos» .entry)) (now («byte_pos» .entry)) (now («cell_starts» .entry)) (now («cell_lengths» .entry)) (now («tag_bytes» .entry))) start end (now (out .entry)) a (now (out .exit)) ⌝ }
 {
     if !sheet::check(
         r,
@@ -198,8 +198,8 @@ pub fn write_withheld_text(
         boundaries,
         char_pos,
         byte_pos,
-        row_ends,
-        tag_ends,
+        cell_starts,
+        cell_lengths,
         tag_bytes,
     ) {
         return no_sheet();
@@ -214,8 +214,8 @@ pub fn write_withheld_text(
         boundaries,
         char_pos,
         byte_pos,
-        row_ends,
-        tag_ends,
+        cell_starts,
+        cell_lengths,
         tag_bytes,
         start,
         end,
@@ -227,8 +227,8 @@ pub fn write_withheld_text(
         boundaries,
         char_pos,
         byte_pos,
-        row_ends,
-        tag_ends,
+        cell_starts,
+        cell_lengths,
         tag_bytes,
         columns,
         start,
@@ -245,8 +245,8 @@ pub fn write_withheld_text(
         boundaries,
         char_pos,
         byte_pos,
-        row_ends,
-        tag_ends,
+        cell_starts,
+        cell_lengths,
         tag_bytes,
         columns,
         start,
@@ -264,12 +264,12 @@ pub fn note_key(
     boundaries: &[u8],
     char_pos: &[u16],
     byte_pos: &[u16],
-    row_ends: &[u16],
-    tag_ends: &[u16],
+    cell_starts: &[u16],
+    cell_lengths: &[u16],
     tag_bytes: &[u8],
     out: &mut [u8],
 ) -> Number
-    ensures { λ a. ⌜ Keyed r (buffers (now (text .entry)) (now (types .entry)) (now (boundaries .entry)) (now («char_pos» .entry)) (now («byte_pos» .entry)) (now («row_ends» .entry)) (now («tag_ends» .entry)) (now («tag_bytes» .entry))) (now (out .entry)) a (now (out .exit)) ⌝ }
+    ensures { λ a. ⌜ Keyed r (buffers (now (text .entry)) (now (types .entry)) (now (boundaries .entry)) (now («char_pos» .entry)) (now («byte_pos» .entry)) (now («cell_starts» .entry)) (now («cell_lengths» .entry)) (now («tag_bytes» .entry))) (now (out .entry)) a (now (out .exit)) ⌝ }
 {
     write_withheld_text(
         r,
@@ -278,8 +278,8 @@ pub fn note_key(
         boundaries,
         char_pos,
         byte_pos,
-        row_ends,
-        tag_ends,
+        cell_starts,
+        cell_lengths,
         tag_bytes,
         0,
         0,

@@ -18,7 +18,7 @@ returns c = search blank-refused
 abbrev entry : tie.Else1 → Buffers
 entry c =
     let a = c .before .before .before .before .before .before .before .before .before .before .args in
-    buffers (now (a .text)) (now (a .types)) (now (a .boundaries)) (now (a .char-pos)) (now (a .byte-pos)) (now (a .row-ends)) (now (a .tag-ends)) (now (a .tag-bytes))
+    buffers (now (a .text)) (now (a .types)) (now (a .boundaries)) (now (a .char-pos)) (now (a .byte-pos)) (now (a .cell-starts)) (now (a .cell-lengths)) (now (a .tag-bytes))
 
 roomy : (c : tie.Else1) → Room (entry c)
 roomy c = search room-at
@@ -41,9 +41,6 @@ slice-write-byte-pos c = omega (arith, roomy c)
 slice-write-byte-pos-2 : tie.Need-slice-write-byte-pos-2
 slice-write-byte-pos-2 c = simp length-set (omega (arith, roomy c))
 
-slice-write-row-ends : tie.Need-slice-write-row-ends
-slice-write-row-ends c = omega (arith, roomy c)
-
 same-length : tie.Need-same-length
 same-length c = search needs
 
@@ -55,9 +52,6 @@ same-length-3 c = search needs
 
 same-length-4 : tie.Need-same-length-4
 same-length-4 c = search needs
-
-same-length-5 : tie.Need-same-length-5
-same-length-5 c = search needs
 
 returns-2 : tie.Need-returns-2
 returns-2 c = search (blank-laid, needs)
@@ -74,10 +68,8 @@ set-default-spec =
     slice-write-char-pos-2
     slice-write-byte-pos
     slice-write-byte-pos-2
-    slice-write-row-ends
     same-length
     same-length-2
     same-length-3
     same-length-4
-    same-length-5
     returns-2)

@@ -62,8 +62,11 @@ slice-reshare-prefix-look-up-2 c = search needs
 slice-aggregate-look-up-2 : tie.Need-slice-aggregate-look-up-2
 slice-aggregate-look-up-2 c = sym (length-take-le _ _ (c .before .before .before .before .before .before .before .before .before .before .before .lent6 .ensures))
 
-part16-requires-3 : tie.Need-part16-requires-3
-part16-requires-3 c κs = search needs
+slice-reshare-prefix-look-up-3 : tie.Need-slice-reshare-prefix-look-up-3
+slice-reshare-prefix-look-up-3 c = search needs
+
+slice-aggregate-look-up-3 : tie.Need-slice-aggregate-look-up-3
+slice-aggregate-look-up-3 c = sym (length-take-le _ _ (c .before .before .before .before .before .before .before .before .before .before .before .lent7 .ensures))
 
 part-requires-3 : tie.Need-part-requires-3
 part-requires-3 c κs = search needs
@@ -89,11 +92,11 @@ slice-relend-prefix-change c = c .before .before .before .before .before .before
 slice-aggregate-change : tie.Need-slice-aggregate-change
 slice-aggregate-change c = sym (length-take-le _ _ (c .before .before .before .before .before .before .before .before .before .before .before .before .before .before .before .before .before .before .before .before .before .before .lent3 .ensures))
 
+part16-requires-3 : tie.Need-part16-requires-3
+part16-requires-3 c κs = search needs
+
 part16-requires-4 : tie.Need-part16-requires-4
 part16-requires-4 c κs = search needs
-
-part16-requires-5 : tie.Need-part16-requires-5
-part16-requires-5 c κs = search needs
 
 slice-relend-prefix-change-2 : tie.Need-slice-relend-prefix-change-2
 slice-relend-prefix-change-2 c = c .before .before .before .before .before .before .before .before .before .before .before .before .before .before .before .before .before .before .before .before .before .lent6 .ensures
@@ -101,8 +104,11 @@ slice-relend-prefix-change-2 c = c .before .before .before .before .before .befo
 slice-aggregate-change-2 : tie.Need-slice-aggregate-change-2
 slice-aggregate-change-2 c = sym (length-take-le _ _ (c .before .before .before .before .before .before .before .before .before .before .before .before .before .before .before .before .before .before .before .before .before .before .lent6 .ensures))
 
-part16-requires-6 : tie.Need-part16-requires-6
-part16-requires-6 c κs = search needs
+slice-relend-prefix-change-3 : tie.Need-slice-relend-prefix-change-3
+slice-relend-prefix-change-3 c = c .before .before .before .before .before .before .before .before .before .before .before .before .before .before .before .before .before .before .before .before .before .lent7 .ensures
+
+slice-aggregate-change-3 : tie.Need-slice-aggregate-change-3
+slice-aggregate-change-3 c = sym (length-take-le _ _ (c .before .before .before .before .before .before .before .before .before .before .before .before .before .before .before .before .before .before .before .before .before .before .lent7 .ensures))
 
 part-requires-6 : tie.Need-part-requires-6
 part-requires-6 c κs = search needs
@@ -121,6 +127,9 @@ same-length c = search needs
 
 same-length-2 : tie.Need-same-length-2
 same-length-2 c = search needs
+
+same-length-3 : tie.Need-same-length-3
+same-length-3 c = search needs
 
 returns : tie.Need-returns
 returns c = search needs
@@ -148,7 +157,8 @@ lend-spec =
     part16-requires-2
     slice-reshare-prefix-look-up-2
     slice-aggregate-look-up-2
-    part16-requires-3
+    slice-reshare-prefix-look-up-3
+    slice-aggregate-look-up-3
     part-requires-3
     place-requires
     place-requires-2
@@ -157,15 +167,17 @@ lend-spec =
     part-requires-5
     slice-relend-prefix-change
     slice-aggregate-change
+    part16-requires-3
     part16-requires-4
-    part16-requires-5
     slice-relend-prefix-change-2
     slice-aggregate-change-2
-    part16-requires-6
+    slice-relend-prefix-change-3
+    slice-aggregate-change-3
     part-requires-6
     place-requires-3
     byte-requires
     change-requires
     same-length
     same-length-2
+    same-length-3
     returns)

@@ -1,8 +1,8 @@
 -- `lookups::tag` meets its contract. Assumes nothing.
 use Rattle.sheet.specs.declared.Part.the-variants.{Refused}
-use borrow.Author.Tests.{leb-false}
-use Rattle.sheet.proofs.Look.{neither, broken, outside, inside, checked, bounds}
+use Rattle.sheet.proofs.Look.{broken, outside, inside, checked, bounds}
 use Rattle.lookups.specs.Answers.{tagAt}
+use Rattle.lookups.proofs.Laws.{in-table}
 use borrow.Author.Needs.{needs}
 use Rattle.lookups.proofs.tag.Statement.{statement}
 use Rattle.lookups.proofs.tag.Tie as tie
@@ -19,7 +19,7 @@ unfolding tagAt
 returns-2 c = outside Refused _ _ _ _ _ (c .before .before .before .before .check .ensures) (c .before .before .before .if1 .left) (rw (← (bounds (checked _ _ _ (c .before .before .before .before .check .ensures) (c .before .before .before .if1 .left)) .n-is), ← (bounds (checked _ _ _ (c .before .before .before .before .check .ensures) (c .before .before .before .if1 .left)) .columns-is)) (c .if2 .taken))
 
 tag-requires : tie.Need-tag-requires
-tag-requires c κs = ((checked _ _ _ (c .before .before .before .before .check .ensures) (c .before .before .before .if1 .left)), leb-false _ _ (neither _ _ (c .if2 .left) .0))
+tag-requires c κs = let t = in-table (c .before .before .before .before .before .before .before .before .before .before .before .before .before .args .r .n) (c .before .before .before .before .before .before .before .before .before .before .before .before .before .args .row) (c .before .before .before .before .before .before .before .before .before .before .before .before .before .args .r .columns) (c .before .before .before .before .before .before .before .before .before .before .before .before .before .args .column) (c .if2 .left) in (checked _ _ _ (c .before .before .before .before .check .ensures) (c .before .before .before .if1 .left), t .0, t .1)
 
 returns-3 : tie.Need-returns-3
 unfolding tagAt

@@ -1,19 +1,22 @@
-// A line read into lent buffers, and written from there.
+// A line that was scanned, laid into lent buffers that have room for it, and written from there.
 use crate::Converted;
-use crate::given::reading::read_as;
 use crate::given::writing::write_as;
-use sheet::Answer;
+use reader::Form;
+use sheet::Record;
 ghost use mathlib.Core.Path.{_≡_};
 ghost use mathlib.Core.Bool.{false};
 ghost use lib.ListN.{length};
+ghost use Rattle.sentence.specs.Reading.{read};
 ghost use Rattle.sheet.specs.Layout.{buffers};
+ghost use Rattle.reader.specs.Flags as flags;
 ghost use Rattle.passage.specs.Between.{formOf, between, Converts};
-ghost use Rattle.passage.specs.Through.{Wide};
+ghost use Rattle.passage.specs.Through.{Scanned, Wide};
 
-// Reads a line in one form and writes it in another.
+// Lays down the sentence of a line, and writes it.
 pub fn through(
-    reader: u32,
+    form: Form,
     writer: u32,
+    r: Record,
     line: &[u8],
     out: &mut [u8],
     text: &mut [u8],
@@ -21,38 +24,37 @@ pub fn through(
     boundaries: &mut [u8],
     char_pos: &mut [u16],
     byte_pos: &mut [u16],
-    row_ends: &mut [u16],
-    tag_ends: &mut [u16],
+    cell_starts: &mut [u16],
+    cell_lengths: &mut [u16],
     tag_bytes: &mut [u8],
 ) -> Converted
-    requires { ⌜ (writer ≡ 0 → ⊥) × Wide (length (now line)) (buffers (now text) (now types) (now boundaries) (now «char_pos») (now «byte_pos») (now «row_ends») (now «tag_ends») (now «tag_bytes»)) ⌝ }
-    ensures { λ a. ⌜ Converts (λ (c : Converted). c) (between false false (formOf reader) (formOf writer) (length (now (out .entry))) (now (line .entry))) 0 (now (out .entry)) a (now (out .exit)) ⌝ }
+    requires { ⌜ (writer ≡ 0 → ⊥) × Scanned (read (flags.formOf form) (now line)) r × Wide (length (now line)) (r .cells) (buffers (now text) (now types) (now boundaries) (now «char_pos») (now «byte_pos») (now «cell_starts») (now «cell_lengths») (now «tag_bytes»)) ⌝ }
+    ensures { λ a. ⌜ Converts (λ (c : Converted). c) (between false false (flags.formOf form) (formOf writer) (length (now (out .entry))) (now (line .entry))) 0 (now (out .entry)) a (now (out .exit)) ⌝ }
 {
-    match read_as(
-        reader,
+    fill::given::fill(
+        form,
+        r.columns,
         line,
         text,
         types,
         boundaries,
         char_pos,
         byte_pos,
-        row_ends,
-        tag_ends,
+        cell_starts,
+        cell_lengths,
         tag_bytes,
-    ) {
-        Answer::Sentence(r) => write_as(
-            writer,
-            r,
-            text,
-            types,
-            boundaries,
-            char_pos,
-            byte_pos,
-            row_ends,
-            tag_ends,
-            tag_bytes,
-            out,
-        ),
-        Answer::Refused(f) => Converted::Refused(f),
-    }
+    );
+    write_as(
+        writer,
+        r,
+        text,
+        types,
+        boundaries,
+        char_pos,
+        byte_pos,
+        cell_starts,
+        cell_lengths,
+        tag_bytes,
+        out,
+    )
 }

@@ -21,13 +21,13 @@ fn tokenized_as(
     boundaries: &[u8],
     char_pos: &[u16],
     byte_pos: &[u16],
-    row_ends: &[u16],
-    tag_ends: &[u16],
+    cell_starts: &[u16],
+    cell_lengths: &[u16],
     tag_bytes: &[u8],
     out: &mut [u8],
 ) -> Converted
-    requires { ⌜ Sheet r (buffers (now text) (now types) (now boundaries) (now «char_pos») (now «byte_pos») (now «row_ends») (now «tag_ends») (now «tag_bytes»)) ⌝ }
-    ensures { λ a. ⌜ Converts (λ (c : Converted). c) (writing tokenized (length (now (out .entry))) (spell r (buffers (now (text .entry)) (now (types .entry)) (now (boundaries .entry)) (now («char_pos» .entry)) (now («byte_pos» .entry)) (now («row_ends» .entry)) (now («tag_ends» .entry)) (now («tag_bytes» .entry))))) 0 (now (out .entry)) a (now (out .exit)) ⌝ }
+    requires { ⌜ Sheet r (buffers (now text) (now types) (now boundaries) (now «char_pos») (now «byte_pos») (now «cell_starts») (now «cell_lengths») (now «tag_bytes»)) ⌝ }
+    ensures { λ a. ⌜ Converts (λ (c : Converted). c) (writing tokenized (length (now (out .entry))) (spell r (buffers (now (text .entry)) (now (types .entry)) (now (boundaries .entry)) (now («char_pos» .entry)) (now («byte_pos» .entry)) (now («cell_starts» .entry)) (now («cell_lengths» .entry)) (now («tag_bytes» .entry))))) 0 (now (out .entry)) a (now (out .exit)) ⌝ }
 {
     let needed = tokenized_short(
         r,
@@ -36,8 +36,8 @@ fn tokenized_as(
         boundaries,
         char_pos,
         byte_pos,
-        row_ends,
-        tag_ends,
+        cell_starts,
+        cell_lengths,
         tag_bytes,
         out.len(),
     );
@@ -54,8 +54,8 @@ fn tokenized_as(
         boundaries,
         char_pos,
         byte_pos,
-        row_ends,
-        tag_ends,
+        cell_starts,
+        cell_lengths,
         tag_bytes,
         out,
     );
@@ -70,13 +70,13 @@ fn partial_as(
     boundaries: &[u8],
     char_pos: &[u16],
     byte_pos: &[u16],
-    row_ends: &[u16],
-    tag_ends: &[u16],
+    cell_starts: &[u16],
+    cell_lengths: &[u16],
     tag_bytes: &[u8],
     out: &mut [u8],
 ) -> Converted
-    requires { ⌜ Sheet r (buffers (now text) (now types) (now boundaries) (now «char_pos») (now «byte_pos») (now «row_ends») (now «tag_ends») (now «tag_bytes»)) ⌝ }
-    ensures { λ a. ⌜ Converts (λ (c : Converted). c) (writing partial (length (now (out .entry))) (spell r (buffers (now (text .entry)) (now (types .entry)) (now (boundaries .entry)) (now («char_pos» .entry)) (now («byte_pos» .entry)) (now («row_ends» .entry)) (now («tag_ends» .entry)) (now («tag_bytes» .entry))))) 0 (now (out .entry)) a (now (out .exit)) ⌝ }
+    requires { ⌜ Sheet r (buffers (now text) (now types) (now boundaries) (now «char_pos») (now «byte_pos») (now «cell_starts») (now «cell_lengths») (now «tag_bytes»)) ⌝ }
+    ensures { λ a. ⌜ Converts (λ (c : Converted). c) (writing partial (length (now (out .entry))) (spell r (buffers (now (text .entry)) (now (types .entry)) (now (boundaries .entry)) (now («char_pos» .entry)) (now («byte_pos» .entry)) (now («cell_starts» .entry)) (now («cell_lengths» .entry)) (now («tag_bytes» .entry))))) 0 (now (out .entry)) a (now (out .exit)) ⌝ }
 {
     let needed = partial_short(
         r,
@@ -85,8 +85,8 @@ fn partial_as(
         boundaries,
         char_pos,
         byte_pos,
-        row_ends,
-        tag_ends,
+        cell_starts,
+        cell_lengths,
         tag_bytes,
         out.len(),
     );
@@ -103,8 +103,8 @@ fn partial_as(
         boundaries,
         char_pos,
         byte_pos,
-        row_ends,
-        tag_ends,
+        cell_starts,
+        cell_lengths,
         tag_bytes,
         out,
     );
@@ -120,13 +120,13 @@ pub fn write_as(
     boundaries: &[u8],
     char_pos: &[u16],
     byte_pos: &[u16],
-    row_ends: &[u16],
-    tag_ends: &[u16],
+    cell_starts: &[u16],
+    cell_lengths: &[u16],
     tag_bytes: &[u8],
     out: &mut [u8],
 ) -> Converted
-    requires { ⌜ (writer ≡ 0 → ⊥) × Sheet r (buffers (now text) (now types) (now boundaries) (now «char_pos») (now «byte_pos») (now «row_ends») (now «tag_ends») (now «tag_bytes»)) ⌝ }
-    ensures { λ a. ⌜ Converts (λ (c : Converted). c) (writing (formOf writer) (length (now (out .entry))) (spell r (buffers (now (text .entry)) (now (types .entry)) (now (boundaries .entry)) (now («char_pos» .entry)) (now («byte_pos» .entry)) (now («row_ends» .entry)) (now («tag_ends» .entry)) (now («tag_bytes» .entry))))) 0 (now (out .entry)) a (now (out .exit)) ⌝ }
+    requires { ⌜ (writer ≡ 0 → ⊥) × Sheet r (buffers (now text) (now types) (now boundaries) (now «char_pos») (now «byte_pos») (now «cell_starts») (now «cell_lengths») (now «tag_bytes»)) ⌝ }
+    ensures { λ a. ⌜ Converts (λ (c : Converted). c) (writing (formOf writer) (length (now (out .entry))) (spell r (buffers (now (text .entry)) (now (types .entry)) (now (boundaries .entry)) (now («char_pos» .entry)) (now («byte_pos» .entry)) (now («cell_starts» .entry)) (now («cell_lengths» .entry)) (now («tag_bytes» .entry))))) 0 (now (out .entry)) a (now (out .exit)) ⌝ }
 {
     if writer == 1 {
         return tokenized_as(
@@ -136,8 +136,8 @@ pub fn write_as(
             boundaries,
             char_pos,
             byte_pos,
-            row_ends,
-            tag_ends,
+            cell_starts,
+            cell_lengths,
             tag_bytes,
             out,
         );
@@ -149,8 +149,8 @@ pub fn write_as(
         boundaries,
         char_pos,
         byte_pos,
-        row_ends,
-        tag_ends,
+        cell_starts,
+        cell_lengths,
         tag_bytes,
         out,
     )

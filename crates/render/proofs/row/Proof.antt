@@ -4,10 +4,10 @@ use Rattle.render.proofs.row.Statement.{statement}
 use Rattle.render.proofs.row.Tie as tie
 
 abbrev Inv-loop : tie.InvT-loop
-Inv-loop r text types boundaries char-pos byte-pos row-ends tag-ends tag-bytes i s₀ j₀ s j = Unit {0}
+Inv-loop r text types boundaries char-pos byte-pos cell-starts cell-lengths tag-bytes i s₀ j₀ s j = Unit {0}
 
 abbrev μ-loop : tie.MeasureT-loop
-μ-loop r text types boundaries char-pos byte-pos row-ends tag-ends tag-bytes i s₀ j₀ s j = r .columns - j
+μ-loop r text types boundaries char-pos byte-pos cell-starts cell-lengths tag-bytes i s₀ j₀ s j = r .columns - j
 
 loop-holds : tie.Need-loop-holds Inv-loop μ-loop
 loop-holds c = search needs

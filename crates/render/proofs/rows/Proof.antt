@@ -4,10 +4,10 @@ use Rattle.render.proofs.rows.Statement.{statement}
 use Rattle.render.proofs.rows.Tie as tie
 
 abbrev Inv-loop : tie.InvT-loop
-Inv-loop r text types boundaries char-pos byte-pos row-ends tag-ends tag-bytes s₀ i₀ s i = Unit {0}
+Inv-loop r text types boundaries char-pos byte-pos cell-starts cell-lengths tag-bytes s₀ i₀ s i = Unit {0}
 
 abbrev μ-loop : tie.MeasureT-loop
-μ-loop r text types boundaries char-pos byte-pos row-ends tag-ends tag-bytes s₀ i₀ s i = r .n - i
+μ-loop r text types boundaries char-pos byte-pos cell-starts cell-lengths tag-bytes s₀ i₀ s i = r .n - i
 
 put-requires : tie.Need-put-requires Inv-loop μ-loop
 put-requires c κs = search needs

@@ -4,10 +4,10 @@ use Rattle.render.proofs.tokens_of.Statement.{statement}
 use Rattle.render.proofs.tokens_of.Tie as tie
 
 abbrev Inv-loop : tie.InvT-loop
-Inv-loop r text types boundaries char-pos byte-pos row-ends tag-ends tag-bytes s₀ p₀ i₀ s p i = Unit {0}
+Inv-loop r text types boundaries char-pos byte-pos cell-starts cell-lengths tag-bytes s₀ p₀ i₀ s p i = Unit {0}
 
 abbrev μ-loop : tie.MeasureT-loop
-μ-loop r text types boundaries char-pos byte-pos row-ends tag-ends tag-bytes s₀ p₀ i₀ s p i = r .n - i
+μ-loop r text types boundaries char-pos byte-pos cell-starts cell-lengths tag-bytes s₀ p₀ i₀ s p i = r .n - i
 
 put-requires : tie.Need-put-requires Inv-loop μ-loop
 put-requires c κs = search needs

@@ -16,9 +16,6 @@ check-requires c κs = search needs
 same-length : tie.Need-same-length
 same-length c = search needs
 
-same-length-2 : tie.Need-same-length-2
-same-length-2 c = search needs
-
 returns : tie.Need-returns
 unfolding scoreAnswer
 returns c = lays-refused _ _ _ _ (broken answer.Refused _ _ _ _ _ (c .before .check .ensures) (c .if1 .taken))
@@ -26,28 +23,22 @@ returns c = lays-refused _ _ _ _ (broken answer.Refused _ _ _ _ _ (c .before .ch
 sub-if2 : tie.Need-sub-if2
 sub-if2 c = omega (arith, bounds (checked _ _ _ (c .before .before .check .ensures) (c .before .if1 .left)))
 
-same-length-3 : tie.Need-same-length-3
-same-length-3 c = search needs
-
-same-length-4 : tie.Need-same-length-4
-same-length-4 c = search needs
+same-length-2 : tie.Need-same-length-2
+same-length-2 c = search needs
 
 returns-2 : tie.Need-returns-2
 unfolding scoreAnswer
 returns-2 c = lays-refused _ _ _ _ (outside answer.Refused _ _ _ _ _ (c .before .before .before .check .ensures) (c .before .before .if1 .left) (rw (← (bounds (checked _ _ _ (c .before .before .before .check .ensures) (c .before .before .if1 .left)) .n-is), ne-eqb _ _ (c .if2 .taken))))
 
 predict-requires : tie.Need-predict-requires
-predict-requires c κs = ((checked _ _ _ (c .before .before .before .before .before .check .ensures) (c .before .before .before .before .if1 .left)), c .before .before .if2 .left)
+predict-requires c κs = ((checked _ _ _ (c .before .before .before .before .check .ensures) (c .before .before .before .if1 .left)), c .before .if2 .left)
 
-same-length-5 : tie.Need-same-length-5
-same-length-5 c = search needs
-
-same-length-6 : tie.Need-same-length-6
-same-length-6 c = search needs
+same-length-3 : tie.Need-same-length-3
+same-length-3 c = search needs
 
 returns-3 : tie.Need-returns-3
 unfolding scoreAnswer
-returns-3 c = lays-served _ _ _ _ _ (inside answer.Refused _ _ _ _ _ (c .before .before .before .before .before .before .before .before .before .before .check .ensures) (c .before .before .before .before .before .before .before .before .before .if1 .left) (rw (← (bounds (checked _ _ _ (c .before .before .before .before .before .before .before .before .before .before .check .ensures) (c .before .before .before .before .before .before .before .before .before .if1 .left)) .n-is), eq-eqb _ _ (c .before .before .before .before .before .before .before .if2 .left))) _ refl) (c .before .before .before .before .predict .ensures)
+returns-3 c = lays-served _ _ _ _ _ (inside answer.Refused _ _ _ _ _ (c .before .before .before .before .before .before .before .check .ensures) (c .before .before .before .before .before .before .if1 .left) (rw (← (bounds (checked _ _ _ (c .before .before .before .before .before .before .before .check .ensures) (c .before .before .before .before .before .before .if1 .left)) .n-is), eq-eqb _ _ (c .before .before .before .before .if2 .left))) _ refl) (c .before .before .predict .ensures)
 
 pub predict-spec : {M : Type 1} → statement M
 predict-spec =
@@ -55,13 +46,10 @@ predict-spec =
     (tie.spec
     check-requires
     same-length
-    same-length-2
     returns
     sub-if2
-    same-length-3
-    same-length-4
+    same-length-2
     returns-2
     predict-requires
-    same-length-5
-    same-length-6
+    same-length-3
     returns-3)

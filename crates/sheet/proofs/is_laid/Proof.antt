@@ -1,5 +1,5 @@
+use Rattle.sheet.proofs.Whole.{part-long, no-text, no-marks, laid-is}
 use borrow.Author.Needs.{needs}
-use Rattle.sheet.proofs.Whole.{part-long, no-text, no-marks, no-tags, laid-is}
 use Rattle.sheet.proofs.is_laid.Statement.{statement}
 use Rattle.sheet.proofs.is_laid.Tie as tie
 
@@ -39,29 +39,20 @@ are-marks-requires c κs = search needs
 returns-2 : tie.Need-returns-2
 returns-2 c = search no-marks
 
-slice-aggregate-are-tags : tie.Need-slice-aggregate-are-tags
-slice-aggregate-are-tags c = search part-long
+slice-aggregate-are-cells : tie.Need-slice-aggregate-are-cells
+slice-aggregate-are-cells c = search part-long
 
-slice-aggregate-are-tags-2 : tie.Need-slice-aggregate-are-tags-2
-slice-aggregate-are-tags-2 c = search part-long
+slice-aggregate-are-cells-2 : tie.Need-slice-aggregate-are-cells-2
+slice-aggregate-are-cells-2 c = search part-long
 
-are-tags-requires : tie.Need-are-tags-requires
-are-tags-requires c κs = search needs
+slice-aggregate-are-cells-3 : tie.Need-slice-aggregate-are-cells-3
+slice-aggregate-are-cells-3 c = search part-long
+
+are-cells-requires : tie.Need-are-cells-requires
+are-cells-requires c κs = search needs
 
 returns-3 : tie.Need-returns-3
-returns-3 c = search no-tags
-
-slice-aggregate-are-rows : tie.Need-slice-aggregate-are-rows
-slice-aggregate-are-rows c = search part-long
-
-slice-aggregate-are-rows-2 : tie.Need-slice-aggregate-are-rows-2
-slice-aggregate-are-rows-2 c = search part-long
-
-are-rows-requires : tie.Need-are-rows-requires
-are-rows-requires c κs = search needs
-
-returns-4 : tie.Need-returns-4
-returns-4 c = search laid-is
+returns-3 c = search laid-is
 
 pub is-laid-spec : {M : Type 1} → statement M
 is-laid-spec =
@@ -79,11 +70,8 @@ is-laid-spec =
     slice-aggregate-are-marks
     are-marks-requires
     returns-2
-    slice-aggregate-are-tags
-    slice-aggregate-are-tags-2
-    are-tags-requires
-    returns-3
-    slice-aggregate-are-rows
-    slice-aggregate-are-rows-2
-    are-rows-requires
-    returns-4)
+    slice-aggregate-are-cells
+    slice-aggregate-are-cells-2
+    slice-aggregate-are-cells-3
+    are-cells-requires
+    returns-3)

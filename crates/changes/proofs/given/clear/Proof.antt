@@ -8,19 +8,19 @@ use Rattle.changes.proofs.given.clear.Statement.{statement}
 use Rattle.changes.proofs.given.clear.Tie as tie
 
 abbrev Inv-loop : tie.InvT-loop
-Inv-loop row-ends₀ n i₀ row-ends i = (i ≤ n) × (n ≤ length row-ends₀) × Filling row-ends₀ (replicate n 0) row-ends i (replicate (n - i) 0)
+Inv-loop cells₀ n i₀ cells i = (i ≤ n) × (n ≤ length cells₀) × Filling cells₀ (replicate n 0) cells i (replicate (n - i) 0)
 
 abbrev μ-loop : tie.MeasureT-loop
-μ-loop row-ends₀ n i₀ row-ends i = n - i
+μ-loop cells₀ n i₀ cells i = n - i
 
 loop-holds : tie.Need-loop-holds Inv-loop μ-loop
 loop-holds c = search (fills, zeros, needs)
 
-mul-row-ends : tie.Need-mul-row-ends Inv-loop μ-loop
-mul-row-ends c = search (fills, zeros, needs)
+mul-cells : tie.Need-mul-cells Inv-loop μ-loop
+mul-cells c = search (fills, zeros, needs)
 
-slice-write-row-ends : tie.Need-slice-write-row-ends Inv-loop μ-loop
-slice-write-row-ends c = search (fills, zeros, needs)
+slice-write-cells : tie.Need-slice-write-cells Inv-loop μ-loop
+slice-write-cells c = search (fills, zeros, needs)
 
 add-i : tie.Need-add-i Inv-loop μ-loop
 add-i c = search (fills, zeros, needs)
@@ -44,8 +44,8 @@ clear-spec =
     Inv-loop
     μ-loop
     loop-holds
-    mul-row-ends
-    slice-write-row-ends
+    mul-cells
+    slice-write-cells
     add-i
     loop-less
     loop-again

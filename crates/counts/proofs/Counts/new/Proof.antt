@@ -1,11 +1,10 @@
 use Rattle.counts.specs.Counts.{nothing}
-use mathlib.Core.Path.{refl}
 use Rattle.counts.proofs.Counts.new.Statement.{statement}
 use Rattle.counts.proofs.Counts.new.Tie as tie
 
 returns : tie.Need-returns
 unfolding nothing
-returns c = refl
+returns c = cc
 
 pub new-spec : {M : Type 1} → statement M
 new-spec = tie.close (tie.spec returns)

@@ -5,16 +5,16 @@ use borrow.Author.Needs.{needs}
 use lib.ListN.{length}
 use Rattle.sheet.specs.Layout.{buffers}
 use Rattle.reader.specs.Flags.{formOf}
-use Rattle.fill.proofs.Laying.{Laying, Span, Long, lay-start, lay-stands, lay-small, lay-span, lay-some, lay-turning, lay-go, lay-finishing, lay-done, lay-long}
+use Rattle.fill.proofs.Laying.{Laying, Span, lay-start, lay-stands, lay-small, lay-span, lay-some, lay-turning, lay-go, lay-finishing, lay-done, lay-long}
 use Rattle.fill.proofs.given.fill.Statement.{statement}
 use Rattle.fill.proofs.given.fill.Tie as tie
 
 abbrev Inv-loop : tie.InvT-loop
-Inv-loop form line text₀ types₀ boundaries₀ char-pos₀ byte-pos₀ row-ends₀ tag-ends₀ tag-bytes₀ tables state₀ counts₀ at₀ text types boundaries char-pos byte-pos row-ends tag-ends tag-bytes state counts at =
-    Laying (formOf form) line state counts at (buffers text₀ types₀ boundaries₀ char-pos₀ byte-pos₀ row-ends₀ tag-ends₀ tag-bytes₀) (buffers text types boundaries char-pos byte-pos row-ends tag-ends tag-bytes)
+Inv-loop form columns line text₀ types₀ boundaries₀ char-pos₀ byte-pos₀ cell-starts₀ cell-lengths₀ tag-bytes₀ tables state₀ counts₀ at₀ text types boundaries char-pos byte-pos cell-starts cell-lengths tag-bytes state counts at =
+    Laying (formOf form) columns line state counts at (buffers text₀ types₀ boundaries₀ char-pos₀ byte-pos₀ cell-starts₀ cell-lengths₀ tag-bytes₀) (buffers text types boundaries char-pos byte-pos cell-starts cell-lengths tag-bytes)
 
 abbrev μ-loop : tie.MeasureT-loop
-μ-loop form line text₀ types₀ boundaries₀ char-pos₀ byte-pos₀ row-ends₀ tag-ends₀ tag-bytes₀ tables state₀ counts₀ at₀ text types boundaries char-pos byte-pos row-ends tag-ends tag-bytes state counts at =
+μ-loop form columns line text₀ types₀ boundaries₀ char-pos₀ byte-pos₀ cell-starts₀ cell-lengths₀ tag-bytes₀ tables state₀ counts₀ at₀ text types boundaries char-pos byte-pos cell-starts cell-lengths tag-bytes state counts at =
     length line - at
 
 new-requires : tie.Need-new-requires Inv-loop μ-loop
@@ -27,7 +27,7 @@ new-requires-3 : tie.Need-new-requires-3 Inv-loop μ-loop
 new-requires-3 c κs = search needs
 
 loop-holds : tie.Need-loop-holds Inv-loop μ-loop
-loop-holds c = lay-start _ _ _ _ _ (c .before .before .before .before .before .before .before .before .before .before .before .before .pre) (c .before .new2 .ensures) (c .new3 .ensures)
+loop-holds c = lay-start _ _ _ _ _ _ (c .before .before .before .before .before .before .before .before .before .before .before .before .pre) (c .before .new2 .ensures) (c .new3 .ensures)
 
 char-at-requires : tie.Need-char-at-requires Inv-loop μ-loop
 char-at-requires c κs = lay-stands (c .before .loop .inv) (c .loop-test .taken)
@@ -67,16 +67,16 @@ same-length-3 : tie.Need-same-length-3 Inv-loop μ-loop
 same-length-3 c = lay-long (c .before .before .before .before .before .before .before .before .before .before .before .before .before .before .loop .inv) .boundaries-long
 
 same-length-4 : tie.Need-same-length-4 Inv-loop μ-loop
-same-length-4 c = c .before .before .before .before .before .before .before .before .finish .kept .1 .0 ∙ lay-long (c .before .before .before .before .before .before .before .before .before .before .before .before .before .before .loop .inv) .char-pos-long
+same-length-4 c = c .before .before .before .before .before .before .before .before .finish .kept .1 .1 .0 ∙ lay-long (c .before .before .before .before .before .before .before .before .before .before .before .before .before .before .loop .inv) .char-pos-long
 
 same-length-5 : tie.Need-same-length-5 Inv-loop μ-loop
-same-length-5 c = c .before .before .before .before .before .before .before .before .finish .kept .1 .1 .0 ∙ lay-long (c .before .before .before .before .before .before .before .before .before .before .before .before .before .before .loop .inv) .byte-pos-long
+same-length-5 c = c .before .before .before .before .before .before .before .before .finish .kept .1 .1 .1 .0 ∙ lay-long (c .before .before .before .before .before .before .before .before .before .before .before .before .before .before .loop .inv) .byte-pos-long
 
 same-length-6 : tie.Need-same-length-6 Inv-loop μ-loop
-same-length-6 c = c .before .before .before .before .before .before .before .before .finish .kept .1 .1 .1 .0 ∙ lay-long (c .before .before .before .before .before .before .before .before .before .before .before .before .before .before .loop .inv) .row-ends-long
+same-length-6 c = c .before .before .before .before .before .before .before .before .finish .kept .1 .1 .1 .1 .0 ∙ lay-long (c .before .before .before .before .before .before .before .before .before .before .before .before .before .before .loop .inv) .cell-starts-long
 
 same-length-7 : tie.Need-same-length-7 Inv-loop μ-loop
-same-length-7 c = c .before .before .before .before .before .before .before .before .finish .kept .1 .1 .1 .1 .0 ∙ lay-long (c .before .before .before .before .before .before .before .before .before .before .before .before .before .before .loop .inv) .tag-ends-long
+same-length-7 c = c .before .before .before .before .before .before .before .before .finish .kept .1 .1 .1 .1 .1 .0 ∙ lay-long (c .before .before .before .before .before .before .before .before .before .before .before .before .before .before .loop .inv) .cell-lengths-long
 
 same-length-8 : tie.Need-same-length-8 Inv-loop μ-loop
 same-length-8 c = lay-long (c .before .before .before .before .before .before .before .before .before .before .before .before .before .before .loop .inv) .tag-bytes-long

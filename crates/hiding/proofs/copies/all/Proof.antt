@@ -6,10 +6,10 @@ use Rattle.hiding.proofs.copies.all.Statement.{statement}
 use Rattle.hiding.proofs.copies.all.Tie as tie
 
 abbrev Inv-loop : tie.InvT-loop
-Inv-loop r text types boundaries char-pos byte-pos row-ends tag-ends tag-bytes room out₀ below start₀ so-far₀ out start so-far = length out ≡ length out₀
+Inv-loop r text types boundaries char-pos byte-pos cell-starts cell-lengths tag-bytes room out₀ below start₀ so-far₀ out start so-far = length out ≡ length out₀
 
 abbrev μ-loop : tie.MeasureT-loop
-μ-loop r text types boundaries char-pos byte-pos row-ends tag-ends tag-bytes room out₀ below start₀ so-far₀ out start so-far = below - start
+μ-loop r text types boundaries char-pos byte-pos cell-starts cell-lengths tag-bytes room out₀ below start₀ so-far₀ out start so-far = below - start
 
 at-most-requires : tie.Need-at-most-requires Inv-loop μ-loop
 at-most-requires c κs = search needs

@@ -6,10 +6,10 @@ use Rattle.hiding.proofs.copies.ends.Statement.{statement}
 use Rattle.hiding.proofs.copies.ends.Tie as tie
 
 abbrev Inv-loop : tie.InvT-loop
-Inv-loop r text types boundaries char-pos byte-pos row-ends tag-ends tag-bytes start below room out₀ end₀ so-far₀ out end so-far = length out ≡ length out₀
+Inv-loop r text types boundaries char-pos byte-pos cell-starts cell-lengths tag-bytes start below room out₀ end₀ so-far₀ out end so-far = length out ≡ length out₀
 
 abbrev μ-loop : tie.MeasureT-loop
-μ-loop r text types boundaries char-pos byte-pos row-ends tag-ends tag-bytes start below room out₀ end₀ so-far₀ out end so-far = below - end
+μ-loop r text types boundaries char-pos byte-pos cell-starts cell-lengths tag-bytes start below room out₀ end₀ so-far₀ out end so-far = below - end
 
 loop-holds : tie.Need-loop-holds Inv-loop μ-loop
 loop-holds c = search needs

@@ -6,22 +6,22 @@ use Rattle.partial.proofs.given.before_into.Statement.{statement}
 use Rattle.partial.proofs.given.before_into.Tie as tie
 
 returns : tie.Need-returns
-returns c = let s = c .before .before .before .before .before .before .before .before in before-empty (s .args .text .now) (s .args .boundaries .now) (s .args .char-pos .now) (s .args .row-ends .now) (s .args .tag-ends .now) (s .args .tag-bytes .now) (s .args .columns) (s .args .start) (s .args .out .now) (c .if1 .taken)
+returns c = let s = c .before .before .before .before .before .before .before .before in before-empty (s .args .text .now) (s .args .boundaries .now) (s .args .char-pos .now) (s .args .cell-starts .now) (s .args .cell-lengths .now) (s .args .tag-bytes .now) (s .args .stride) (s .args .columns) (s .args .start) (s .args .out .now) (c .if1 .taken)
 
 sub-last : tie.Need-sub-last
 sub-last c = search needs
 
 stretch-into-requires : tie.Need-stretch-into-requires
-stretch-into-requires c κs = let s = c .before .before .before .before .before .before .before .before .before in before-first (s .args .text .now) (s .args .boundaries .now) (s .args .char-pos .now) (s .args .row-ends .now) (s .args .tag-ends .now) (s .args .tag-bytes .now) (s .args .columns) (s .args .start) (c .before .if1 .left) (s .args .out .now) (s .pre .0) (s .pre .1) (s .pre .2) (s .pre .3)
+stretch-into-requires c κs = let s = c .before .before .before .before .before .before .before .before .before in before-first (s .args .text .now) (s .args .boundaries .now) (s .args .char-pos .now) (s .args .cell-starts .now) (s .args .cell-lengths .now) (s .args .tag-bytes .now) (s .args .stride) (s .args .columns) (s .args .start) (c .before .if1 .left) (s .args .out .now) (s .pre .0) (s .pre .1) (s .pre .2) (s .pre .3)
 
 char-apart-requires : tie.Need-char-apart-requires
-char-apart-requires c κs = let s = c .before .before .before .before .before .before .before .before .before .before .before .before .before in before-then (s .args .text .now) (s .args .boundaries .now) (s .args .char-pos .now) (s .args .row-ends .now) (s .args .tag-ends .now) (s .args .tag-bytes .now) (s .args .columns) (s .args .start) (c .before .before .before .before .before .if1 .left) (s .args .out .now) (s .pre .0) (s .pre .1) (s .pre .2) (s .pre .3) (c .before .before .before .stretch-into .ensures)
+char-apart-requires c κs = let s = c .before .before .before .before .before .before .before .before .before .before .before .before .before in before-then (s .args .text .now) (s .args .boundaries .now) (s .args .char-pos .now) (s .args .cell-starts .now) (s .args .cell-lengths .now) (s .args .tag-bytes .now) (s .args .stride) (s .args .columns) (s .args .start) (c .before .before .before .before .before .if1 .left) (s .args .out .now) (s .pre .0) (s .pre .1) (s .pre .2) (s .pre .3) (c .before .before .before .stretch-into .ensures)
 
 slice-write-out : tie.Need-slice-write-out
 slice-write-out c = search (before-byte, needs)
 
 add-result : tie.Need-add-result
-add-result c = let s = c .before .before .before .before .before .before .before .before .before .before .before .before .before .before .before .before in omega (arith, before-inside (s .args .text .now) (s .args .boundaries .now) (s .args .char-pos .now) (s .args .row-ends .now) (s .args .tag-ends .now) (s .args .tag-bytes .now) (s .args .columns) (s .args .start) (c .before .before .before .before .before .before .before .before .if1 .left) (s .args .out .now) (s .pre .0) (s .pre .1) (s .pre .2) (s .pre .3) (c .before .before .before .before .before .before .stretch-into .ensures) (c .before .before .char-apart .ensures), s .good)
+add-result c = let s = c .before .before .before .before .before .before .before .before .before .before .before .before .before .before .before .before in omega (arith, before-inside (s .args .text .now) (s .args .boundaries .now) (s .args .char-pos .now) (s .args .cell-starts .now) (s .args .cell-lengths .now) (s .args .tag-bytes .now) (s .args .stride) (s .args .columns) (s .args .start) (c .before .before .before .before .before .before .before .before .if1 .left) (s .args .out .now) (s .pre .0) (s .pre .1) (s .pre .2) (s .pre .3) (c .before .before .before .before .before .before .stretch-into .ensures) (c .before .before .char-apart .ensures), s .good)
 
 same-length : tie.Need-same-length
 same-length c = search (set-long, needs)

@@ -8,11 +8,11 @@ use Rattle.partial.proofs.given.columns_shown.Statement.{statement}
 use Rattle.partial.proofs.given.columns_shown.Tie as tie
 
 abbrev Inv-loop : tie.InvT-loop
-Inv-loop r text types boundaries char-pos byte-pos row-ends tag-ends tag-bytes start end columns₀ i₀ columns i =
-    Seeking r (buffers text types boundaries char-pos byte-pos row-ends tag-ends tag-bytes) start end columns i
+Inv-loop r text types boundaries char-pos byte-pos cell-starts cell-lengths tag-bytes start end columns₀ i₀ columns i =
+    Seeking r (buffers text types boundaries char-pos byte-pos cell-starts cell-lengths tag-bytes) start end columns i
 
 abbrev μ-loop : tie.MeasureT-loop
-μ-loop r text types boundaries char-pos byte-pos row-ends tag-ends tag-bytes start end columns₀ i₀ columns i =
+μ-loop r text types boundaries char-pos byte-pos cell-starts cell-lengths tag-bytes start end columns₀ i₀ columns i =
     r .n - i
 
 loop-holds : tie.Need-loop-holds Inv-loop μ-loop

@@ -7,11 +7,11 @@ use Rattle.partial.proofs.given.count_slashes.Statement.{statement}
 use Rattle.partial.proofs.given.count_slashes.Tie as tie
 
 abbrev Inv-loop : tie.InvT-loop
-Inv-loop boundaries row-ends tag-ends tag-bytes columns from upto sum₀ i₀ sum i =
-    Slashing boundaries row-ends tag-ends tag-bytes columns upto (slashesOf boundaries row-ends columns from (upto - from)) sum i
+Inv-loop boundaries cell-starts cell-lengths tag-bytes stride columns from upto sum₀ i₀ sum i =
+    Slashing boundaries cell-starts cell-lengths tag-bytes stride columns upto (slashesOf boundaries cell-lengths stride columns from (upto - from)) sum i
 
 abbrev μ-loop : tie.MeasureT-loop
-μ-loop boundaries row-ends tag-ends tag-bytes columns from upto sum₀ i₀ sum i = upto - i
+μ-loop boundaries cell-starts cell-lengths tag-bytes stride columns from upto sum₀ i₀ sum i = upto - i
 
 loop-holds : tie.Need-loop-holds Inv-loop μ-loop
 loop-holds c = search (slash-start, slash-reads, slash-asks, slash-word-fits, slash-word, slash-other-fits, slash-other, slash-done, needs)

@@ -8,11 +8,11 @@ use Rattle.partial.proofs.given.stretch_into.Statement.{statement}
 use Rattle.partial.proofs.given.stretch_into.Tie as tie
 
 abbrev Inv-loop : tie.InvT-loop
-Inv-loop text boundaries char-pos row-ends tag-ends tag-bytes columns from upto out₀ at n₀ i₀ out n i =
-    Stretching text boundaries char-pos row-ends tag-ends tag-bytes columns upto out₀ at (stretchOf text boundaries char-pos row-ends tag-ends tag-bytes columns from (upto - from)) out n i
+Inv-loop text boundaries char-pos cell-starts cell-lengths tag-bytes stride columns from upto out₀ at n₀ i₀ out n i =
+    Stretching text boundaries char-pos cell-starts cell-lengths tag-bytes stride columns upto out₀ at (stretchOf text boundaries char-pos cell-starts cell-lengths tag-bytes stride columns from (upto - from)) out n i
 
 abbrev μ-loop : tie.MeasureT-loop
-μ-loop text boundaries char-pos row-ends tag-ends tag-bytes columns from upto out₀ at n₀ i₀ out n i = upto - i
+μ-loop text boundaries char-pos cell-starts cell-lengths tag-bytes stride columns from upto out₀ at n₀ i₀ out n i = upto - i
 
 loop-holds : tie.Need-loop-holds Inv-loop μ-loop
 loop-holds c = search (stretch-start, stretch-reads, stretch-byte, stretch-next, stretch-done, needs)

@@ -1,18 +1,16 @@
 -- `pieces::given::bytes_before` meets its contract. Assumes nothing.
-use mathlib.Core.Path.{_∙_, ap}
-use Rattle.lookups.specs.Answers.{edge}
-use borrow.Author.Needs.{needs}
+use native.Mathlib.Omega.{arith}
 use Rattle.pieces.proofs.given.bytes_before.Statement.{statement}
 use Rattle.pieces.proofs.given.bytes_before.Tie as tie
 
-edge-requires : tie.Need-edge-requires
-edge-requires c κs = search needs
+mul-bytes-to : tie.Need-mul-bytes-to
+mul-bytes-to c = omega (arith, c .before .before .pre .few)
 
-edge-requires-2 : tie.Need-edge-requires-2
-edge-requires-2 c κs = search needs
+bytes-to-requires : tie.Need-bytes-to-requires
+bytes-to-requires c κs = c .before .before .pre
 
 returns : tie.Need-returns
-returns c = c .edge2 .ensures ∙ ap (edge _) (c .before .edge .ensures)
+returns c = c .bytes-to .ensures
 
 pub bytes-before-spec : {M : Type 1} → statement M
-bytes-before-spec = tie.close (tie.spec edge-requires edge-requires-2 returns)
+bytes-before-spec = tie.close (tie.spec mul-bytes-to bytes-to-requires returns)

@@ -9,7 +9,7 @@ use Rattle.pieces.proofs.given.char_apart.Statement.{statement}
 use Rattle.pieces.proofs.given.char_apart.Tie as tie
 
 text-into-requires : tie.Need-text-into-requires
-text-into-requires c κs = let s = c .before .before .before .before .before .before .before in (s .pre .0, first-fits (textAt (s .args .char-pos .now) (s .args .text .now) (s .args .i) (s .args .i + 1)) (rowLine partial (s .args .columns) (rowAt (s .args .row-ends .now) (s .args .tag-ends .now) (s .args .tag-bytes .now) (s .args .i))) (s .args .out .now) _ (s .pre .2))
+text-into-requires c κs = let s = c .before .before .before .before .before .before .before in (s .pre .0, first-fits (textAt (s .args .char-pos .now) (s .args .text .now) (s .args .i) (s .args .i + 1)) (rowLine partial (s .args .columns) (rowAt (s .args .cell-starts .now) (s .args .cell-lengths .now) (s .args .tag-bytes .now) (s .args .stride) (s .args .i))) (s .args .out .now) _ (s .pre .2))
 
 row-into-requires : tie.Need-row-into-requires
 row-into-requires c κs = let s = c .before .before .before .before .before .before .before .before .before .before .before in (s .pre .1, then-fits _ _ (s .args .out .now) _ (s .pre .2) (c .before .before .before .text-into .ensures))

@@ -1,32 +1,27 @@
 -- `pieces::given::row_into` meets its contract. Assumes nothing.
+use Rattle.pieces.proofs.Cells.{count-fits, count-end}
 use Rattle.pieces.proofs.Tags.{row-tags, row-rest, row-padded, row-full}
 use borrow.Author.Needs.{needs}
 use Rattle.pieces.proofs.given.row_into.Statement.{statement}
 use Rattle.pieces.proofs.given.row_into.Tie as tie
 
-edge-requires : tie.Need-edge-requires
-edge-requires c κs = search needs
+row-count-requires : tie.Need-row-count-requires
+row-count-requires c κs = c .before .before .before .before .pre .0 .cells
 
-mul-wide : tie.Need-mul-wide
-mul-wide c = search needs
+mul-k : tie.Need-mul-k
+mul-k c = count-fits (c .before .before .before .before .before .args .stride) (c .before .before .before .before .before .args .i) (c .before .before .before .before .before .pre .0 .cells)
 
-shared-slice-read-wide : tie.Need-shared-slice-read-wide
-shared-slice-read-wide c = search needs
-
-wide-requires : tie.Need-wide-requires
-wide-requires c κs = search needs
+add-tags-into : tie.Need-add-tags-into
+add-tags-into c = count-end (c .before .before .before .before .before .args .stride) (c .before .before .before .before .before .args .i) (c .before .before .before .before .before .pre .0 .cells) (c .row-count .ensures)
 
 tags-into-requires : tie.Need-tags-into-requires
-tags-into-requires c κs = let s = c .before .before .before .before .before .before .before .before in row-tags _ (s .args .columns) _ _ _ _ _ _ (c .before .before .before .edge .ensures) (c .before .wide .ensures) (s .args .out .now) _ (s .pre .1) (s .pre .0)
-
-sub-listed : tie.Need-sub-listed
-sub-listed c = search needs
+tags-into-requires c κs = row-tags _ (c .before .before .before .before .before .before .args .columns) _ _ _ (c .before .before .before .before .before .before .args .stride) (c .before .before .before .before .before .before .args .i) (c .before .row-count .ensures) (c .before .before .before .before .before .before .args .out .now) _ (c .before .before .before .before .before .before .pre .1) (c .before .before .before .before .before .before .pre .0)
 
 sub-repeat : tie.Need-sub-repeat
 sub-repeat c = search needs
 
 repeat-requires : tie.Need-repeat-requires
-repeat-requires c κs = search row-rest
+repeat-requires c κs = row-rest _ _ _ _ _ (c .before .before .before .before .before .before .before .before .before .before .before .args .stride) (c .before .before .before .before .before .before .before .before .before .before .before .args .i) (c .before .before .before .before .before .before .row-count .ensures) (c .before .before .before .before .before .before .before .before .before .before .before .args .out .now) _ (c .before .before .before .before .before .before .before .before .before .before .before .pre .1) (c .before .before .before .before .tags-into .ensures)
 
 same-length : tie.Need-same-length
 same-length c = search needs
@@ -44,12 +39,10 @@ pub row-into-spec : {M : Type 1} → statement M
 row-into-spec =
     tie.close
     (tie.spec
-    edge-requires
-    mul-wide
-    shared-slice-read-wide
-    wide-requires
+    row-count-requires
+    mul-k
+    add-tags-into
     tags-into-requires
-    sub-listed
     sub-repeat
     repeat-requires
     same-length

@@ -1,46 +1,39 @@
 -- `pieces::given::row_len` meets its contract. Assumes nothing.
+use native.Mathlib.Omega.{arith}
+use Rattle.pieces.proofs.Cells.{fewer, count-fits}
 use Rattle.pieces.proofs.Lengths.{row-bytes, row-room, row-long}
-use borrow.Author.Needs.{needs}
 use Rattle.pieces.proofs.given.row_len.Statement.{statement}
 use Rattle.pieces.proofs.given.row_len.Tie as tie
 
-edge-requires : tie.Need-edge-requires
-edge-requires c κs = search needs
+mul-k : tie.Need-mul-k
+mul-k c = count-fits (c .before .before .before .args .columns) (c .before .before .before .args .i) (c .before .before .before .pre .0 .cells)
 
-mul-wide : tie.Need-mul-wide
-mul-wide c = search needs
+bytes-to-requires : tie.Need-bytes-to-requires
+bytes-to-requires c κs = fewer _ (omega arith) (c .before .before .before .pre .0 .cells)
 
-shared-slice-read-wide : tie.Need-shared-slice-read-wide
-shared-slice-read-wide c = search needs
+add-bytes-to : tie.Need-add-bytes-to
+add-bytes-to c = omega (arith, c .before .before .before .before .pre .0 .cells .few)
 
-wide-requires : tie.Need-wide-requires
-wide-requires c κs = search needs
-
-edge-requires-2 : tie.Need-edge-requires-2
-edge-requires-2 c κs = search needs
-
-edge-requires-3 : tie.Need-edge-requires-3
-edge-requires-3 c κs = search needs
+bytes-to-requires-2 : tie.Need-bytes-to-requires-2
+bytes-to-requires-2 c κs = c .before .before .before .before .pre .0 .cells
 
 escaped-len-requires : tie.Need-escaped-len-requires
-escaped-len-requires c κs = row-bytes _ _ _ _ _ _ _ _ (c .before .before .before .before .edge .ensures) (c .before .before .wide .ensures) (c .before .edge2 .ensures) (c .edge3 .ensures) (c .before .before .before .before .before .before .before .before .pre .0)
+escaped-len-requires c κs = row-bytes _ _ (c .before .before .before .before .before .args .tag-bytes .now) (c .before .before .before .before .before .args .columns) (c .before .before .before .before .before .args .i) (c .before .bytes-to .ensures) (c .bytes-to2 .ensures) (c .before .before .before .before .before .pre .0)
 
 add-result : tie.Need-add-result
-add-result c = let s = c .before .before .before .before .before .before .before .before .before in row-room _ _ _ _ _ _ _ _ (c .before .before .before .before .before .edge .ensures) (c .before .before .before .wide .ensures) (c .before .before .edge2 .ensures) (c .before .edge3 .ensures) (s .pre .0) (s .args .columns) (c .escaped-len .ensures) (s .pre .1) (s .pre .2)
+add-result c = row-room _ _ _ (c .before .before .before .before .before .before .args .columns) (c .before .before .before .before .before .before .args .i) (c .before .before .bytes-to .ensures) (c .before .bytes-to2 .ensures) (c .before .before .before .before .before .before .pre .0) (c .escaped-len .ensures) (c .before .before .before .before .before .before .pre .1)
 
 returns : tie.Need-returns
-returns c = search row-long
+returns c = row-long _ _ _ (c .before .before .before .before .before .before .args .columns) (c .before .before .before .before .before .before .args .i) (c .before .before .bytes-to .ensures) (c .before .bytes-to2 .ensures) (c .before .before .before .before .before .before .pre .0) (c .escaped-len .ensures)
 
 pub row-len-spec : {M : Type 1} → statement M
 row-len-spec =
     tie.close
     (tie.spec
-    edge-requires
-    mul-wide
-    shared-slice-read-wide
-    wide-requires
-    edge-requires-2
-    edge-requires-3
+    mul-k
+    bytes-to-requires
+    add-bytes-to
+    bytes-to-requires-2
     escaped-len-requires
     add-result
     returns)

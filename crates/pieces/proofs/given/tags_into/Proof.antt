@@ -1,23 +1,20 @@
--- `pieces::given::tags_into` meets its contract. The invariant: the tags from j on are left to write, and the j-th starts at `from`. Assumes nothing.
+-- `pieces::given::tags_into` meets its contract. The invariant: the tags from the j-th cell on are left to write. Assumes nothing.
 use Prim.Native.Nat.{_-_}
-use borrow.Author.Needs.{needs}
 use Rattle.sentence.specs.Writing.{writeTags}
 use Rattle.escape.specs.Escape.{formOf}
 use Rattle.pieces.specs.Pieces.{piecesAt}
 use Rattle.pieces.proofs.Tags.{Tagging, tag-part, tagging}
+use borrow.Author.Needs.{needs}
 use Rattle.pieces.proofs.given.tags_into.Statement.{statement}
 use Rattle.pieces.proofs.given.tags_into.Tie as tie
 
 abbrev Inv-loop : tie.InvT-loop
-Inv-loop in-partial tag-ends tag-bytes k end out₀ at from₀ j₀ n₀ out from j n =
+Inv-loop in-partial cell-starts cell-lengths tag-bytes k end out₀ at j₀ n₀ out j n =
     let f = formOf in-partial in
-    Tagging f tag-ends tag-bytes end out₀ at (writeTags f (piecesAt tag-ends tag-bytes k (end - k))) out from j n
+    Tagging f cell-starts cell-lengths tag-bytes end out₀ at (writeTags f (piecesAt cell-starts cell-lengths tag-bytes k (end - k))) out j n
 
 abbrev μ-loop : tie.MeasureT-loop
-μ-loop in-partial tag-ends tag-bytes k end out₀ at from₀ j₀ n₀ out from j n = end - j
-
-edge-requires : tie.Need-edge-requires Inv-loop μ-loop
-edge-requires c κs = search (tagging, needs)
+μ-loop in-partial cell-starts cell-lengths tag-bytes k end out₀ at j₀ n₀ out j n = end - j
 
 loop-holds : tie.Need-loop-holds Inv-loop μ-loop
 loop-holds c = search (tagging, needs)
@@ -31,6 +28,9 @@ shared-slice-read-wide c = search (tagging, needs)
 wide-requires : tie.Need-wide-requires Inv-loop μ-loop
 wide-requires c κs = search (tagging, needs)
 
+end-of-requires : tie.Need-end-of-requires Inv-loop μ-loop
+end-of-requires c κs = search (tagging, needs)
+
 slice-write-out : tie.Need-slice-write-out Inv-loop μ-loop
 slice-write-out c = search (tagging, needs)
 
@@ -38,7 +38,7 @@ add-copy-escaped : tie.Need-add-copy-escaped Inv-loop μ-loop
 add-copy-escaped c = search (tagging, needs)
 
 copy-escaped-requires : tie.Need-copy-escaped-requires Inv-loop μ-loop
-copy-escaped-requires c κs = tag-part (c .before .before .before .before .loop .inv) (c .before .before .before .before .before .before .before .before .before .pre .1) (c .before .before .before .loop-test .taken) (c .before .wide .ensures)
+copy-escaped-requires c κs = tag-part (c .before .before .before .before .before .loop .inv) (c .before .before .before .before .loop-test .taken) (c .before .before .wide .ensures) (c .before .end-of .ensures)
 
 add-j : tie.Need-add-j Inv-loop μ-loop
 add-j c = search (tagging, needs)
@@ -61,11 +61,11 @@ tags-into-spec =
     (tie.spec
     Inv-loop
     μ-loop
-    edge-requires
     loop-holds
     mul-wide
     shared-slice-read-wide
     wide-requires
+    end-of-requires
     slice-write-out
     add-copy-escaped
     copy-escaped-requires

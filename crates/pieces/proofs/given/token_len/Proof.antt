@@ -29,7 +29,7 @@ sub-row-len : tie.Need-sub-row-len
 sub-row-len c = search needs
 
 row-len-requires : tie.Need-row-len-requires
-row-len-requires c κs = let s = c .before .before .before .before .before .before .before .before .before .before in (s .pre .2, s .pre .3, token-row _ (s .args .text .now) (s .args .char-pos .now) _ _ _ (s .args .b) (s .args .e) (s .pre .4))
+row-len-requires c κs = let s = c .before .before .before .before .before .before .before .before .before .before in (s .pre .2, token-row _ (s .args .text .now) (s .args .char-pos .now) _ _ _ (s .args .b) (s .args .e) (s .pre .3))
 
 add-result : tie.Need-add-result
 add-result c = search token-room

@@ -9,17 +9,11 @@ use Rattle.scores.proofs.given.predict.Tie as tie
 fill-requires : tie.Need-fill-requires
 fill-requires c κs = omega (arith, bounds (c .before .before .before .before .before .before .before .before .before .pre .0), c .before .before .before .before .before .before .before .before .before .pre .1)
 
-clear-requires : tie.Need-clear-requires
-clear-requires c κs = omega (arith, bounds (c .before .before .before .before .before .before .before .before .before .before .before .before .before .pre .0))
-
 same-length : tie.Need-same-length
 same-length c = search needs
 
-same-length-2 : tie.Need-same-length-2
-same-length-2 c = search needs
-
 returns : tie.Need-returns
-returns c = scores-lay (c .before .before .before .before .before .before .before .before .before .before .before .before .before .before .before .before .pre .0) _ _ _ (c .before .before .before .before .before .before .before .before .before .before .before .before .before .before .before .before .pre .1) (c .before .before .before .before .before .before .fill .ensures) (c .before .before .clear .ensures)
+returns c = scores-lay (c .before .before .before .before .before .before .before .before .before .before .before .before .pre .0) _ _ (c .before .before .before .before .before .before .before .before .before .before .before .before .pre .1) (c .before .before .fill .ensures)
 
 pub predict-spec : {M : Type 1} → statement M
-predict-spec = tie.close (tie.spec fill-requires clear-requires same-length same-length-2 returns)
+predict-spec = tie.close (tie.spec fill-requires same-length returns)

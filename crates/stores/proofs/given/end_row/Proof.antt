@@ -1,51 +1,41 @@
-use Rattle.stores.proofs.Copies.{row-stored}
-use Rattle.stores.specs.Parts.{rowEnd}
-use Rattle.stores.proofs.Copies.{later-none, later-fits}
-use Rattle.counts.proofs.Bounds.{ends-few}
-use native.Mathlib.Omega.{arith}
+use Rattle.stores.proofs.Copies.{row-start-room, row-start-stored, bare-starts, bare-lengths}
 use borrow.Author.Needs.{needs}
 use Rattle.stores.proofs.given.end_row.Statement.{statement}
 use Rattle.stores.proofs.given.end_row.Tie as tie
 
-ends-requires : tie.Need-ends-requires
-ends-requires c κs = search needs
-
-add-end : tie.Need-add-end
-add-end c = omega (arith, ends-few (c .before .before .before .args .k .tag))
-
-cast-end : tie.Need-cast-end
-cast-end c = omega (arith, ends-few (c .before .before .before .args .k .tag))
-
 returns : tie.Need-returns
-unfolding rowEnd
-returns c = search later-none
+returns c = (search bare-starts, search bare-lengths)
 
-sub-row-ends : tie.Need-sub-row-ends
-sub-row-ends c = search needs
+start-requires : tie.Need-start-requires
+start-requires c κs = search needs
 
-mul-row-ends : tie.Need-mul-row-ends
-mul-row-ends c = search needs
+cast-end-cells : tie.Need-cast-end-cells
+cast-end-cells c = search needs
 
-slice-write-row-ends : tie.Need-slice-write-row-ends
-unfolding rowEnd
-slice-write-row-ends c = search later-fits
+end-cells-requires : tie.Need-end-cells-requires
+end-cells-requires c κs = (search needs, search needs, search row-start-room)
+
+end-cells-requires-2 : tie.Need-end-cells-requires-2
+end-cells-requires-2 c κs = search needs
 
 same-length : tie.Need-same-length
 same-length c = search needs
 
+same-length-2 : tie.Need-same-length-2
+same-length-2 c = search needs
+
 returns-2 : tie.Need-returns-2
-returns-2 c = search row-stored
+returns-2 c = (search row-start-stored, search needs)
 
 pub end-row-spec : {M : Type 1} → statement M
 end-row-spec =
     tie.close
     (tie.spec
-    ends-requires
-    add-end
-    cast-end
     returns
-    sub-row-ends
-    mul-row-ends
-    slice-write-row-ends
+    start-requires
+    cast-end-cells
+    end-cells-requires
+    end-cells-requires-2
     same-length
+    same-length-2
     returns-2)

@@ -1,53 +1,33 @@
-use Rattle.stores.specs.Parts.{closes}
-use Rattle.stores.proofs.Copies.{closes-fits}
+use Rattle.stores.proofs.Copies.{start-room, start-stored}
 use borrow.Author.Needs.{needs}
 use Rattle.stores.proofs.given.end_tag.Statement.{statement}
 use Rattle.stores.proofs.given.end_tag.Tie as tie
 
-cast-g : tie.Need-cast-g
-cast-g c = search needs
+start-requires : tie.Need-start-requires
+start-requires c κs = search needs
 
-enum-told : tie.Need-enum-told
-enum-told c = search needs
+end-cell-requires : tie.Need-end-cell-requires
+end-cell-requires c κs = (search needs, search needs, search start-room)
 
-enum-told-2 : tie.Need-enum-told-2
-enum-told-2 c = search needs
-
-enum-told-3 : tie.Need-enum-told-3
-enum-told-3 c = search needs
-
-mul-tag-ends : tie.Need-mul-tag-ends
-mul-tag-ends c = search needs
-
-slice-write-tag-ends : tie.Need-slice-write-tag-ends
-slice-write-tag-ends c = search closes-fits
-
-returns : tie.Need-returns
-unfolding closes
-returns c = cc
-
-returns-2 : tie.Need-returns-2
-unfolding closes
-returns-2 c = cc
+end-cell-requires-2 : tie.Need-end-cell-requires-2
+end-cell-requires-2 c κs = search needs
 
 same-length : tie.Need-same-length
 same-length c = search needs
 
-returns-3 : tie.Need-returns-3
-unfolding closes
-returns-3 c = cc
+same-length-2 : tie.Need-same-length-2
+same-length-2 c = search needs
+
+returns : tie.Need-returns
+returns c = (search start-stored, search needs)
 
 pub end-tag-spec : {M : Type 1} → statement M
 end-tag-spec =
     tie.close
     (tie.spec
-    cast-g
-    enum-told
-    enum-told-2
-    enum-told-3
-    mul-tag-ends
-    slice-write-tag-ends
-    returns
-    returns-2
+    start-requires
+    end-cell-requires
+    end-cell-requires-2
     same-length
-    returns-3)
+    same-length-2
+    returns)

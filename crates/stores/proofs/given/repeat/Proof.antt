@@ -1,30 +1,26 @@
-use borrow.Author.Needs.{needs}
-use Rattle.stores.proofs.Copies.{Repeating, repeat-start, repeat-more, repeat-done}
-use native.Mathlib.Omega.{arith}
 use Prim.Native.Nat.{_-_}
+use Rattle.stores.proofs.Copies.{Repeating, repeat-start, repeat-more, repeat-done}
+use borrow.Author.Needs.{needs}
 use Rattle.stores.proofs.given.repeat.Statement.{statement}
 use Rattle.stores.proofs.given.repeat.Tie as tie
 
 abbrev Inv-loop : tie.InvT-loop
-Inv-loop end times tag-ends₀ at i₀ tag-ends i = Repeating tag-ends₀ tag-ends at end times i
+Inv-loop value times cells₀ at i₀ cells i = Repeating cells₀ cells at value times i
 
 abbrev μ-loop : tie.MeasureT-loop
-μ-loop end times tag-ends₀ at i₀ tag-ends i = times - i
+μ-loop value times cells₀ at i₀ cells i = times - i
 
 loop-holds : tie.Need-loop-holds Inv-loop μ-loop
 loop-holds c = search repeat-start
 
-cast-tag-ends : tie.Need-cast-tag-ends Inv-loop μ-loop
-cast-tag-ends c = search needs
+add-cells : tie.Need-add-cells Inv-loop μ-loop
+add-cells c = search needs
 
-add-tag-ends : tie.Need-add-tag-ends Inv-loop μ-loop
-add-tag-ends c = search needs
+mul-cells : tie.Need-mul-cells Inv-loop μ-loop
+mul-cells c = search needs
 
-mul-tag-ends : tie.Need-mul-tag-ends Inv-loop μ-loop
-mul-tag-ends c = search needs
-
-slice-write-tag-ends : tie.Need-slice-write-tag-ends Inv-loop μ-loop
-slice-write-tag-ends c = search needs
+slice-write-cells : tie.Need-slice-write-cells Inv-loop μ-loop
+slice-write-cells c = search needs
 
 add-i : tie.Need-add-i Inv-loop μ-loop
 add-i c = search needs
@@ -48,10 +44,9 @@ repeat-spec =
     Inv-loop
     μ-loop
     loop-holds
-    cast-tag-ends
-    add-tag-ends
-    mul-tag-ends
-    slice-write-tag-ends
+    add-cells
+    mul-cells
+    slice-write-cells
     add-i
     loop-less
     loop-again

@@ -13,10 +13,10 @@ enum-told-2 c = search needs
 
 -- the room of a character of the text, and that of a character of a tag
 roomy : (c : tie.After-copy-arg) → let a = c .before .before .before .before .before .before .before .before .before .before .before .before .args in
-    LetterRoom (a .s .mark) (a .s .c) (a .k) (a .line .now) (a .at) (a .len) (buffers (a .text .now) (a .types .now) (a .boundaries .now) (a .char-pos .now) (a .byte-pos .now) (a .row-ends .now) (a .tag-ends .now) (a .tag-bytes .now))
+    LetterRoom (a .columns) (a .s .mark) (a .s .c) (a .k) (a .line .now) (a .at) (a .len) (buffers (a .text .now) (a .types .now) (a .boundaries .now) (a .char-pos .now) (a .byte-pos .now) (a .cell-starts .now) (a .cell-lengths .now) (a .tag-bytes .now))
 roomy c = search letter-room
 
-tag-roomy : (c : tie.After-pass-tags-arg) → let a = c .before .before .before .before .before .before .before .before .before .before .before .before .args in TagRoom (a .k) (a .line .now) (a .at) (a .len) (buffers (a .text .now) (a .types .now) (a .boundaries .now) (a .char-pos .now) (a .byte-pos .now) (a .row-ends .now) (a .tag-ends .now) (a .tag-bytes .now))
+tag-roomy : (c : tie.After-keep-arg) → let a = c .before .before .before .before .before .before .before .before .before .before .before .before .args in TagRoom (a .k) (a .line .now) (a .at) (a .len) (buffers (a .text .now) (a .types .now) (a .boundaries .now) (a .char-pos .now) (a .byte-pos .now) (a .cell-starts .now) (a .cell-lengths .now) (a .tag-bytes .now))
 tag-roomy c = search tag-room
 
 copy-requires : tie.Need-copy-requires
@@ -44,28 +44,22 @@ number-requires : tie.Need-number-requires
 number-requires c κs = let l = roomy (c .before .before .before .before .before .before .before .before .before) in (omega (arith, l .small), l .some, l .few, l .byte-pos-room)
 
 end-row-requires : tie.Need-end-row-requires
-end-row-requires c κs = let l = roomy (c .before .before .before .before .before .before .before .before .before .before .before .before .before) in (l .small, l .row-ends-room)
-
-end-tag-requires : tie.Need-end-tag-requires
-end-tag-requires c κs = let l = roomy (c .before .before .before .before .before .before .before .before .before .before .before .before .before .before .before .before .before) in (l .small, l .tag-ends-room)
+end-row-requires c κs = roomy (c .before .before .before .before .before .before .before .before .before .before .before .before .before .before) .row-room
 
 enum-told-3 : tie.Need-enum-told-3
 enum-told-3 c = search needs
 
-end-tag-requires-2 : tie.Need-end-tag-requires-2
-end-tag-requires-2 c κs = opens-room _ _ _ _ _ _ (c .before .enum-told3 .given .1) (c .before .before .before .before .before .before .before .before .before .before .before .before .pre .1)
+end-tag-requires : tie.Need-end-tag-requires
+end-tag-requires c κs = opens-room _ _ _ _ _ _ _ (c .before .before .enum-told3 .given .1) (c .before .before .before .before .before .before .before .before .before .before .before .before .before .pre .1)
 
 enum-told-4 : tie.Need-enum-told-4
 enum-told-4 c = search needs
 
-pass-tags-requires : tie.Need-pass-tags-requires
-pass-tags-requires c κs = let l = tag-roomy c in (l .small, l .tag-ends-room)
-
 keep-requires : tie.Need-keep-requires
-keep-requires c κs = let l = tag-roomy (c .before .before .before .before) in (l .some, l .few, l .within, l .tag-bytes-room)
+keep-requires c κs = let l = tag-roomy c in (l .some, l .few, l .within, l .tag-bytes-room)
 
 returns : tie.Need-returns
-returns c = skip-stored _ (c .enum-told .given .1)
+returns c = skip-stored _ _ (c .enum-told .given .1)
 
 same-length : tie.Need-same-length
 same-length c = search needs
@@ -89,22 +83,22 @@ same-length-7 : tie.Need-same-length-7
 same-length-7 c = search needs
 
 returns-2 : tie.Need-returns-2
-returns-2 c = letter-stored _ (c .before .before .before .before .before .before .before .before .before .before .before .before .before .before .before .before .before .before .before .before .before .enum-told2 .given .1) (c .before .before .before .before .before .before .before .before .before .before .before .before .before .before .before .before .before .before .before .before .before .before .before .before .before .before .before .before .before .before .before .before .pre .1) (c .before .before .before .before .before .before .before .before .before .before .before .before .before .before .before .before .before .before .before .copy .ensures) (c .before .before .before .before .before .before .before .before .before .before .before .before .before .before .before .before .get-type .ensures) (c .before .before .before .before .before .before .before .before .before .before .before .before .before .before .boundary .ensures) (c .before .before .before .before .before .before .before .before .before .before .number .ensures) (c .before .before .before .before .before .before .end-row .ensures) (c .before .before .end-tag .ensures)
+returns-2 c = letter-stored _ _ (c .before .before .before .before .before .before .before .before .before .before .before .before .before .before .before .before .before .before .before .before .enum-told2 .given .1) (c .before .before .before .before .before .before .before .before .before .before .before .before .before .before .before .before .before .before .before .before .before .before .before .before .before .before .before .before .before .before .before .pre .1) (c .before .before .before .before .before .before .before .before .before .before .before .before .before .before .before .before .before .before .copy .ensures) (c .before .before .before .before .before .before .before .before .before .before .before .before .before .before .before .get-type .ensures) (c .before .before .before .before .before .before .before .before .before .before .before .before .before .boundary .ensures) (c .before .before .before .before .before .before .before .before .before .number .ensures) (c .before .before .before .before .end-row .ensures)
 
 same-length-8 : tie.Need-same-length-8
 same-length-8 c = search needs
 
-returns-3 : tie.Need-returns-3
-returns-3 c = opens-stored _ (c .before .before .before .before .enum-told3 .given .1) (c .before .before .end-tag2 .ensures)
-
 same-length-9 : tie.Need-same-length-9
 same-length-9 c = search needs
+
+returns-3 : tie.Need-returns-3
+returns-3 c = opens-stored _ _ (c .before .before .before .before .before .before .before .enum-told3 .given .1) (c .before .before .before .before .end-tag .ensures)
 
 same-length-10 : tie.Need-same-length-10
 same-length-10 c = search needs
 
 returns-4 : tie.Need-returns-4
-returns-4 c = tag-stored _ (c .before .before .before .before .before .before .before .before .enum-told4 .given .1) (c .before .before .before .before .before .before .before .before .before .before .before .before .before .before .before .before .before .before .before .pre .1) (c .before .before .before .before .before .before .pass-tags .ensures) (c .before .before .keep .ensures)
+returns-4 c = tag-stored _ _ (c .before .before .before .before .enum-told4 .given .1) (c .before .before .before .before .before .before .before .before .before .before .before .before .before .before .before .pre .1) (c .before .before .keep .ensures)
 
 pub turn-spec : {M : Type 1} → statement M
 turn-spec =
@@ -121,11 +115,9 @@ turn-spec =
     slice-write-char-pos
     number-requires
     end-row-requires
-    end-tag-requires
     enum-told-3
-    end-tag-requires-2
+    end-tag-requires
     enum-told-4
-    pass-tags-requires
     keep-requires
     returns
     same-length
@@ -137,7 +129,7 @@ turn-spec =
     same-length-7
     returns-2
     same-length-8
-    returns-3
     same-length-9
+    returns-3
     same-length-10
     returns-4)

@@ -8,11 +8,11 @@ use Rattle.tokenized.proofs.given.tokenized_into.Statement.{statement}
 use Rattle.tokenized.proofs.given.tokenized_into.Tie as tie
 
 abbrev Inv-loop : tie.InvT-loop
-Inv-loop r text types boundaries char-pos byte-pos row-ends tag-ends tag-bytes out₀ n₀ p₀ some₀ out n p some =
-    Tokening r (buffers text types boundaries char-pos byte-pos row-ends tag-ends tag-bytes) out₀ out n p some
+Inv-loop r text types boundaries char-pos byte-pos cell-starts cell-lengths tag-bytes out₀ n₀ p₀ some₀ out n p some =
+    Tokening r (buffers text types boundaries char-pos byte-pos cell-starts cell-lengths tag-bytes) out₀ out n p some
 
 abbrev μ-loop : tie.MeasureT-loop
-μ-loop r text types boundaries char-pos byte-pos row-ends tag-ends tag-bytes out₀ n₀ p₀ some₀ out n p some = r .n - p
+μ-loop r text types boundaries char-pos byte-pos cell-starts cell-lengths tag-bytes out₀ n₀ p₀ some₀ out n p some = r .n - p
 
 loop-holds : tie.Need-loop-holds Inv-loop μ-loop
 loop-holds c = token-start _ (c .before .before .before .before .before .before .before .before .before .pre .0) (c .before .before .before .before .before .before .before .before .before .pre .1)
@@ -31,7 +31,7 @@ wide-requires-2 c κs = search needs
 
 served : (c : tie.After-wide2 Inv-loop μ-loop) →
     let a = c .before .before .before .before .before .before .before .before .before .before .before .before .before .before .before .before .args in
-    Comes (a .r) (buffers (a .text .now) (a .types .now) (a .boundaries .now) (a .char-pos .now) (a .byte-pos .now) (a .row-ends .now) (a .tag-ends .now) (a .tag-bytes .now)) (c .before .before .before .before .before .before .loop .p) (c .before .wide .result) (c .wide2 .result)
+    Comes (a .r) (buffers (a .text .now) (a .types .now) (a .boundaries .now) (a .char-pos .now) (a .byte-pos .now) (a .cell-starts .now) (a .cell-lengths .now) (a .tag-bytes .now)) (c .before .before .before .before .before .before .loop .p) (c .before .wide .result) (c .wide2 .result)
 served c = search comes
 
 gap-into-requires : tie.Need-gap-into-requires Inv-loop μ-loop

@@ -1,0 +1,14 @@
+use Rattle.counts.specs.Counts.{opened}
+use Rattle.counts.proofs.given.opened.Statement.{statement}
+use Rattle.counts.proofs.given.opened.Tie as tie
+
+returns : tie.Need-returns
+unfolding opened
+returns c = cc
+
+returns-2 : tie.Need-returns-2
+unfolding opened
+returns-2 c = cc
+
+pub opened-spec : {M : Type 1} → statement M
+opened-spec = tie.close (tie.spec returns returns-2)
