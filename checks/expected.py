@@ -1,8 +1,8 @@
 #!/usr/bin/env python3
 """Whether the file `stdout` that a program's output is held to is what its expected.py makes.
 
-Each makes it by itself and takes nothing from the program: `vectors` by Python's codec, `damaged` by document 01, `cases` by document 01 and by what the
-Rust answered (host/recorded), `hiding` by documents 01 and 02. Status 0 where all agree, 1 where one does not. The last line counts what each compared.
+Each makes it by itself and takes nothing from the program: `vectors` by Python's codec, `damaged` and `hiding` by documents 01 and 02, `cases` by them
+and by what the Rust answered (host/recorded). Status 0 where all agree, 1 where one does not. The last line counts what each compared.
 """
 import os
 import subprocess

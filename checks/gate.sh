@@ -183,7 +183,7 @@ without=rustc installs=yes ends 'the host without a compiler' 1 'nothing was run
 ends 'the host without the sources' 1 $'VAPORETTO_SRC to the folder vaporetto/src of a checkout)\n0 passed, 1 failed' VAPORETTO_SRC="$work/none" bash "$here/host/whole.sh"
 
 # The words of the host's scripts, and what they cannot do: status 2, and a line that says so.
-for name in build check-test compare-test count example interrupted keys link record whole withhold; do
+for name in build check-test compare-test count example interrupted keys link loader record whole withhold; do
     ends "$name with an unknown word" 2 "host/$name.sh: there is no '--more'" bash "$here/host/$name.sh" --more
     ends "the help of $name" 0 'Status 0: ' bash "$here/host/$name.sh" --help
 done
@@ -209,7 +209,7 @@ for words in build.sh 'record.sh --check'; do
     without=rustc installs=yes ends "$words without a compiler" 2 'this is missing: rustc 1.83' "$@"
     ends "$words where the compiler fails" 2 $'a word of the compiler\nhost/build.sh: the compiler failed' "$@"
 done
-for words in 'count exports' 'example convert' 'keys exports partial' 'withhold exports'; do
+for words in 'count exports' 'example convert' 'keys exports partial' 'loader exports' 'withhold exports'; do
     read -r name library form <<<"$words"
     set -- bash "$here/host/$name.sh" ${form:+"$form"}
     rm -rf "$here/target"

@@ -1,6 +1,7 @@
 """respell.sh on input that arrives in any pieces, and on files and devices that fail: what is printed, what is said, and the status.
 
-The lines asked and their answers are document 01's own; the answers to overlong lines are those of its table of refusals.
+The lines asked and their answers are document 01's own; the answers to overlong lines are those of its table of refusals, and those to lines around
+2,048 cells, characters times columns, are document 02's.
 """
 import array
 import fcntl
@@ -129,6 +130,31 @@ def long_lines():
                 expect(f"a line of {n} bytes split at {cut}", pieces([line[:cut], line[cut:], b"\n" + ASKED]), (answer + WANTED, b"", 0))
 
 
+def many_cells():
+    """11 for over 2,048 cells, after all that the reader refuses and before 12."""
+    lines = [
+        (b"TP" + b"b" * 45 + b"/" * 46, b"!11 0"),
+        (b"TP" + b"b" * 45 + b"/" * 45, b"=" + b"-".join([b"b"] * 45) + b"/" * 45),
+        (b"TPb b" + b"/" * 1024, b"=b" + b"/" * 1024 + b"|b" + b"/" * 1024),
+        (b"TPb b" + b"/" * 1025, b"!11 0"),
+        (b"PTb|b" + b"/" * 1024, b"=b" + b"/" * 1024 + b" b" + b"/" * 1024),
+        (b"PTb|b" + b"/" * 1025, b"!11 0"),
+        (b"TT" + b"b" * 1024 + b"//x", b"=" + b"b" * 1024 + b"//x"),
+        (b"TT" + b"b" * 1025 + b"//x", b"!11 0"),
+        (b"RT" + b"b" * 45 + b"/" * 46, b"="),
+        (b"TP" + b"b" * 45 + b"/" * 46 + b"\0", b"!4 91"),
+        (b"TP" + b"b" * 45 + b"/" * 46 + b" ", b"!8 92"),
+        (b"PT" + b"b" * 45 + b"/" * 46, b"!9 1"),
+        (b"TR" + b"b" * 45 + b"/" * 46, b"!16 0"),
+        (b"TP" + b" ".join([b"b"] * 91) + b"/" * 91, b"!11 0"),
+        (b"TP" + b" ".join([b"b"] * 40) + b"/" * 51 + b"-" * 3966, b"!12 10051"),
+    ]
+    got, err, status = whole(b"".join(line + b"\n" for line, _ in lines))
+    for (line, wanted), told in zip(lines, got.split(b"\n")):
+        expect(f"cells: {line[:80]!r}, {len(line)} bytes", told, wanted)
+    expect("cells: how many answers, what is said, the status", (got.count(b"\n"), err, status), (len(lines), b"", 0))
+
+
 def inputs_that_fail():
     folder = os.open("/", os.O_RDONLY)
     expect("a folder as input", outcome(start(stdin=folder)), (b"", b"respell: standard input: Is a directory\n", 1))
@@ -201,10 +227,11 @@ def words():
 whole(b"")
 arrivals()
 long_lines()
+many_cells()
 inputs_that_fail()
 outputs_that_fail()
 words()
 for fault in faults[:20]:
     print(fault)
-print(f"{count} runs of respell.sh, {len(faults)} with another outcome")
+print(f"{count} outcomes of respell.sh, {len(faults)} other than they should be")
 sys.exit(1 if faults else 0)

@@ -35,17 +35,22 @@ notices() {
 # The readers.
 notices 'reader: refuses' "the reader's answer: "
 notices 'reader: answer' "the reader's answer: "
-for part in N B columns K G; do
-    [ "$part" = columns ] && name='the columns' || name=$part
+for part in N B columns cells G; do
+    case $part in columns | cells) name="the $part" ;; *) name=$part ;; esac
     notices "reader: $part" "the reader's numbers: $name: "
 done
 notices 'reader: number behind' "the reader's numbers: a number behind the five: "
-for part in text types boundaries 'char positions' 'byte positions' 'row ends' 'tag ends' 'tag bytes'; do
+for part in text types boundaries 'char positions' 'byte positions' 'cell starts' 'cell lengths' 'tag bytes'; do
     notices "reader: last of $part" "the reader's $part: "
     notices "reader: behind $part" "what stands behind the reader's $part: "
     notices "reader: overrun $part" "what stands behind the reader's $part: "
     notices "reader: $part where refused" "the $part of a refused reader: "
 done
+notices 'reader: starts of absent tags' "the reader's cell starts: "
+notices 'reader: starts in their rows' "the reader's cell starts: "
+notices 'reader: ends for lengths' "the reader's cell lengths: "
+notices 'reader: lengths of the next cells' "the reader's cell lengths: "
+notices 'reader: listed tags for cells' "the reader's numbers: the cells: "
 notices 'reader: numbers where refused' 'the numbers of a refused reader: '
 for number in 1 2 3 4 5 6 7 8 9 10; do
     notices "reader: number $number" "the reader's answer to a line that is to be refused: "
@@ -70,6 +75,7 @@ notices 'conversion: behind' 'what stands behind the converted line: '
 notices 'conversion: overrun' 'what stands behind the converted line: '
 notices 'conversion: memory where refused' 'the output of a refused conversion: '
 for part in number place accepts; do
+    notices "conversion: $part 11" "the conversion's answer to a sentence with too many cells"
     notices "conversion: $part 12" "the conversion's answer with short room"
     notices "conversion: $part 14" "the conversion's answer to "
     notices "conversion: $part 16" "the conversion's answer to an unknown form: "

@@ -65,4 +65,5 @@ shown 'keys.sh prints the keys of a second reading, and says what it cannot do' 
 shown "README.md's recipe finds the duplicates of the sample" python3 "$here/../checks/readme.py" duplicates
 shown 'respell makes interrupted calls again, and goes on after short ones' "$here/interrupted.sh"
 check 'the examples in C and in Rust link the port and print what they should' "$here/example.sh"
+check 'the loaders in C and in Rust walk the cells of notes and print what they should' "$here/loader.sh"
 finish

@@ -13,10 +13,11 @@ cd "$here/samples" || exit 2
 "${run[@]}" "$out/x86/both" compare T notes.txt | diff - notes.report || { echo 'compare does not report on host/samples/notes.txt as notes.report does' && exit 1; }
 
 # Every part of the port's answer made wrong in turn: an unexplained difference in that part, and status 1.
-for wrong in 'reader: refuses|answer' 'reader: number|answer' 'reader: place|answer' 'reader: N|numbers' 'reader: columns|columns' 'reader: text|text' \
-    'reader: types|types' 'reader: boundaries|boundaries' 'reader: char positions|char positions' 'reader: byte positions|byte positions' \
-    'reader: row ends|row ends' 'reader: tag ends|tag ends' 'reader: tag bytes|tag bytes' 'step: end|tokens' 'writer: tokenized line|tokenized line' \
-    'writer: partial line|partial line'; do
+for wrong in 'reader: refuses|answer' 'reader: number|answer' 'reader: place|answer' 'reader: N|numbers' 'reader: cells|numbers' \
+    'reader: columns|columns' 'reader: text|text' 'reader: types|types' 'reader: boundaries|boundaries' 'reader: char positions|char positions' \
+    'reader: byte positions|byte positions' 'reader: cell starts|cell starts' 'reader: cell lengths|cell lengths' 'reader: tag bytes|tag bytes' \
+    'step: end|tokens' 'writer: tokenized line|tokenized line' 'writer: partial line|partial line' 'conversion: line|converted to partial' \
+    'conversion: place|converted to partial' 'conversion: accepts 11|converted to tokenized'; do
     status=0
     said=$(SPOIL=${wrong%|*} "${run[@]}" "$out/x86/both_wrong" compare --tsv T notes.txt 2>/dev/null) || status=$?
     if [ "$status" != 1 ] || ! grep -qF $'\tunexplained\t'"${wrong#*|}"$'\t' <<<"$said"; then

@@ -16,30 +16,30 @@
 #pragma weak ighdelmur_key
 #pragma weak ighdelmur_convert
 
-enum { LONGEST = 4096, CELLS = LONGEST + 1, ROOM = 65536 };
+enum { LONGEST = 4096, ROOM = IGHDELMUR_ROOM, CELLS = IGHDELMUR_CELLS, OUTPUT = 65536 };
 
-static uint8_t text[CELLS], types[CELLS], boundaries[CELLS], tag_bytes[CELLS], out[ROOM];
-static uint16_t char_pos[CELLS], byte_pos[CELLS], row_ends[CELLS], tag_ends[CELLS];
+static uint8_t text[ROOM], types[ROOM], boundaries[ROOM], tag_bytes[ROOM], out[OUTPUT];
+static uint16_t char_pos[ROOM], byte_pos[ROOM], cell_starts[CELLS], cell_lengths[CELLS];
 static uint64_t numbers[5];
 
 static uint64_t read_line(uint32_t form, const uint8_t *line, size_t length) {
-    return ighdelmur_read(form, line, length, text, CELLS, types, CELLS, boundaries, CELLS, char_pos, CELLS, byte_pos, CELLS, row_ends, CELLS,
-                          tag_ends, CELLS, tag_bytes, CELLS, numbers, 5);
+    return ighdelmur_read(form, line, length, text, ROOM, types, ROOM, boundaries, ROOM, char_pos, ROOM, byte_pos, ROOM, cell_starts, CELLS,
+                          cell_lengths, CELLS, tag_bytes, ROOM, numbers, 5);
 }
 
 static uint64_t write_line(uint32_t form, size_t room) {
-    return ighdelmur_write(form, numbers[0], numbers[1], numbers[2], numbers[3], numbers[4], text, CELLS, types, CELLS, boundaries, CELLS,
-                           char_pos, CELLS, byte_pos, CELLS, row_ends, CELLS, tag_ends, CELLS, tag_bytes, CELLS, out, room);
+    return ighdelmur_write(form, numbers[0], numbers[1], numbers[2], numbers[3], numbers[4], text, ROOM, types, ROOM, boundaries, ROOM,
+                           char_pos, ROOM, byte_pos, ROOM, cell_starts, CELLS, cell_lengths, CELLS, tag_bytes, ROOM, out, room);
 }
 
 static uint64_t withhold(size_t start, size_t end, size_t room) {
-    return ighdelmur_withhold(numbers[0], numbers[1], numbers[2], numbers[3], numbers[4], text, CELLS, types, CELLS, boundaries, CELLS,
-                              char_pos, CELLS, byte_pos, CELLS, row_ends, CELLS, tag_ends, CELLS, tag_bytes, CELLS, start, end, out, room);
+    return ighdelmur_withhold(numbers[0], numbers[1], numbers[2], numbers[3], numbers[4], text, ROOM, types, ROOM, boundaries, ROOM,
+                              char_pos, ROOM, byte_pos, ROOM, cell_starts, CELLS, cell_lengths, CELLS, tag_bytes, ROOM, start, end, out, room);
 }
 
 static uint64_t write_key(size_t room) {
-    return ighdelmur_key(numbers[0], numbers[1], numbers[2], numbers[3], numbers[4], text, CELLS, types, CELLS, boundaries, CELLS,
-                         char_pos, CELLS, byte_pos, CELLS, row_ends, CELLS, tag_ends, CELLS, tag_bytes, CELLS, out, room);
+    return ighdelmur_key(numbers[0], numbers[1], numbers[2], numbers[3], numbers[4], text, ROOM, types, ROOM, boundaries, ROOM,
+                         char_pos, ROOM, byte_pos, ROOM, cell_starts, CELLS, cell_lengths, CELLS, tag_bytes, ROOM, out, room);
 }
 
 enum call { READ, PARTIAL, TOKENIZED, THIRD, NOTHING, KEY, CONVERT, CALLS };
@@ -99,8 +99,8 @@ int main(int argc, char **argv) {
     }
     uint32_t form = argv[2][0] == 'P' ? IGHDELMUR_PARTIAL : IGHDELMUR_TOKENIZED;
     for (int i = 3; fgets(line, sizeof line, stdin) != NULL; i++) {
-        size_t length = strcspn(line, "\n"), room = i < argc ? strtoul(argv[i], NULL, 10) : ROOM;
-        uint64_t a = answer(call, form, (const uint8_t *)line, length, room < ROOM ? room : ROOM);
+        size_t length = strcspn(line, "\n"), room = i < argc ? strtoul(argv[i], NULL, 10) : OUTPUT;
+        uint64_t a = answer(call, form, (const uint8_t *)line, length, room < OUTPUT ? room : OUTPUT);
         if (ighdelmur_refused(a)) {
             fprintf(stderr, "refused, %u at %" PRIu64 ": %s", ighdelmur_number(a), ighdelmur_place(a), line);
             return 1;

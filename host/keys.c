@@ -15,11 +15,11 @@
 #include "ighdelmur.h"
 
 /* KEY is the longest key of a line of 4,096 bytes: 1,024 characters with 2,048 columns each, and one tag, a sign that the key escapes. */
-enum { LONGEST = 4096, CELLS = LONGEST + 1, KEY = 2099201, PART = 1 << 16 };
+enum { LONGEST = 4096, ROOM = IGHDELMUR_ROOM, CELLS = IGHDELMUR_CELLS, KEY = 2099201, PART = 1 << 16 };
 
 /* A sheet with room for every line that is read. */
-static uint8_t text[CELLS], types[CELLS], boundaries[CELLS], tag_bytes[CELLS];
-static uint16_t char_pos[CELLS], byte_pos[CELLS], row_ends[CELLS], tag_ends[CELLS];
+static uint8_t text[ROOM], types[ROOM], boundaries[ROOM], tag_bytes[ROOM];
+static uint16_t char_pos[ROOM], byte_pos[ROOM], cell_starts[CELLS], cell_lengths[CELLS];
 static uint64_t numbers[5];
 
 /* The line so far; of one that is too long, a byte more than the reader takes. */
@@ -31,13 +31,13 @@ static uint8_t answers[PART + 1 + KEY + 1];
 static size_t held;
 
 static uint64_t read_line(uint32_t form) {
-    return ighdelmur_read(form, line, length, text, CELLS, types, CELLS, boundaries, CELLS, char_pos, CELLS, byte_pos, CELLS, row_ends, CELLS,
-                          tag_ends, CELLS, tag_bytes, CELLS, numbers, 5);
+    return ighdelmur_read(form, line, length, text, ROOM, types, ROOM, boundaries, ROOM, char_pos, ROOM, byte_pos, ROOM, cell_starts, CELLS,
+                          cell_lengths, CELLS, tag_bytes, ROOM, numbers, 5);
 }
 
 static uint64_t write_key(uint8_t *out) {
-    return ighdelmur_key(numbers[0], numbers[1], numbers[2], numbers[3], numbers[4], text, CELLS, types, CELLS, boundaries, CELLS,
-                         char_pos, CELLS, byte_pos, CELLS, row_ends, CELLS, tag_ends, CELLS, tag_bytes, CELLS, out, KEY);
+    return ighdelmur_key(numbers[0], numbers[1], numbers[2], numbers[3], numbers[4], text, ROOM, types, ROOM, boundaries, ROOM,
+                         char_pos, ROOM, byte_pos, ROOM, cell_starts, CELLS, cell_lengths, CELLS, tag_bytes, ROOM, out, KEY);
 }
 
 static void fail(const char *what) {

@@ -94,6 +94,9 @@ def lines_asked():
         yield b"a|" * (n // 2) + b"b" * (n % 2)
     yield b"a" + b"/" * 2048 + b"x" + b"|b" * 1023
     yield b"a" + b"/" * 2048 + b"-" + b" b" * 1023
+    # The most cells that there are, and the most with a tag.
+    yield b"b" * 2048 + b"/" * 2048
+    yield b"b" * 2047 + b"/" * 2048 + b"x"
 
 
 def second_reading(form, line):

@@ -3,8 +3,8 @@
 
 Usage: respelled.py ORACLE RESPELL... [--long]
 RESPELL is the command that runs the program. Lines: every short one over a small alphabet, lines drawn from a fixed seed,
-lines around each limit, and damaged ones; --long draws some hundred thousand. Prints how many lines were compared and
-each difference. Status 0: none; 1: there is one; 2: bad usage, or a program that could not be run.
+lines around each limit, and damaged ones; --long draws some hundred thousand. A sentence of over 2,048 cells, characters
+times columns, must be refused by 11, which is D13 of docs/DIFFERENCES.md. Prints how many lines were compared and each difference. Status 0: none; 1: there is one; 2: bad usage, or a program that could not be run.
 """
 import random
 import subprocess
@@ -12,6 +12,8 @@ import sys
 from itertools import product
 
 SIGNS = ["a", "あ", " ", "/", "\\", "-", "|", "\0", "\U00020000"]
+# How many cells and how many written bytes the program holds.
+CELLS, ROOM = 2048, 8192
 JAPANESE = "火星猫は社長だまぁ良いだろう名詞動詞カセーヨイ助詞ABC012-|/\\ "
 
 
@@ -56,7 +58,7 @@ def drawn_lines(count, seed):
 
 
 def limit_lines():
-    """Lines around the limits: 4,096 bytes of a line, 8,192 of a written one, many columns."""
+    """Lines around the limits: 4,096 bytes of a line, 8,192 of a written one, 2,048 cells, many columns."""
     for n in (4094, 4095, 4096, 4097, 4098, 5000, 9000):
         yield b"a" * n
         yield ("あ" * (n // 3)).encode() + b"a" * (n % 3)
@@ -66,6 +68,13 @@ def limit_lines():
     for n in (40, 64, 90, 91, 128, 2000):
         yield b"a" + b"/" * n + b" b" * n
         yield b"a" + b"/" * n + b"|b" * n
+    for n, columns in ((1, 2048), (1, 2049), (2, 1024), (2, 1025), (45, 45), (45, 46), (46, 45), (1024, 2), (1025, 2), (2047, 1), (2047, 2)):
+        yield b"b" * n + b"/" * columns
+        yield b" ".join([b"b"] * n) + b"/" * columns
+        yield b"b" + b"/" * (columns - 1) + b"/x" + b"|b" * (n - 1)
+    for n, columns in ((3, 5), (3, 6), (40, 51), (45, 46)):
+        line = b" ".join([b"b"] * n) + b"/" * columns
+        yield line + b"-" * (4096 - len(line))
 
 
 def answers(oracle, asked):
@@ -82,8 +91,10 @@ def wanted(line, answer, field):
         return b"!1 4096", True
     if words[2] == "!":
         return (f"!2 {words[4]}".encode(), True) if len(words) > 3 else (b"!", False)
+    if len(words[4]) * int(words[8]) > CELLS:
+        return b"!11 0", True
     out = bytes.fromhex(words[field].replace(".", ""))
-    return (b"=" + out, True) if len(out) <= 8192 else (f"!12 {len(out)}".encode(), True)
+    return (b"=" + out, True) if len(out) <= ROOM else (f"!12 {len(out)}".encode(), True)
 
 
 def main():

@@ -8,13 +8,14 @@
 
 #include "ighdelmur.h"
 
-enum { LONGEST = 8192, CELLS = 4097, ROOM = 1 << 22, MARGIN = 64, UNTOUCHED = 0xa5 };
+enum { LONGEST = 8192, ROOM = IGHDELMUR_ROOM, CELLS = IGHDELMUR_CELLS, OUTPUT = 1 << 22, MARGIN = 64, UNTOUCHED = 0xa5 };
 
 /* A sheet with room for every line that is read. */
 struct sheet {
-    uint8_t text[CELLS], types[CELLS], boundaries[CELLS], tag_bytes[CELLS];
-    uint16_t char_pos[CELLS], byte_pos[CELLS], row_ends[CELLS], tag_ends[CELLS];
+    uint8_t text[ROOM], types[ROOM], boundaries[ROOM], tag_bytes[ROOM];
+    uint16_t char_pos[ROOM], byte_pos[ROOM];
     uint64_t numbers[5];
+    uint16_t cell_starts[CELLS], cell_lengths[CELLS];
 };
 
 /* What is asked of a sheet. */
@@ -25,23 +26,41 @@ struct question {
 };
 
 static struct sheet sheet, before;
-static uint8_t out[ROOM + MARGIN];
+static uint8_t out[OUTPUT + MARGIN];
 
 static uint64_t read_line(uint32_t form, const uint8_t *line, size_t length, struct sheet *s) {
-    return ighdelmur_read(form, line, length, s->text, CELLS, s->types, CELLS, s->boundaries, CELLS, s->char_pos, CELLS,
-                          s->byte_pos, CELLS, s->row_ends, CELLS, s->tag_ends, CELLS, s->tag_bytes, CELLS, s->numbers, 5);
+    return ighdelmur_read(form, line, length, s->text, ROOM, s->types, ROOM, s->boundaries, ROOM, s->char_pos, ROOM,
+                          s->byte_pos, ROOM, s->cell_starts, CELLS, s->cell_lengths, CELLS, s->tag_bytes, ROOM, s->numbers, 5);
 }
 
 static uint64_t withhold(const struct sheet *s, const struct question *q) {
     const uint64_t *n = s->numbers;
-    return ighdelmur_withhold(n[0] + q->more, n[1], n[2], n[3], n[4], s->text, CELLS, s->types, CELLS, s->boundaries, CELLS, s->char_pos, CELLS,
-                              s->byte_pos, CELLS, s->row_ends, CELLS, s->tag_ends, CELLS, s->tag_bytes, CELLS, q->start, q->end, out, q->room);
+    return ighdelmur_withhold(n[0] + q->more, n[1], n[2], n[3], n[4], s->text, ROOM, s->types, ROOM, s->boundaries, ROOM, s->char_pos, ROOM,
+                              s->byte_pos, ROOM, s->cell_starts, CELLS, s->cell_lengths, CELLS, s->tag_bytes, ROOM, q->start, q->end, out, q->room);
 }
 
 static uint64_t write_key(const struct sheet *s, const struct question *q) {
     const uint64_t *n = s->numbers;
-    return ighdelmur_key(n[0] + q->more, n[1], n[2], n[3], n[4], s->text, CELLS, s->types, CELLS, s->boundaries, CELLS, s->char_pos, CELLS,
-                         s->byte_pos, CELLS, s->row_ends, CELLS, s->tag_ends, CELLS, s->tag_bytes, CELLS, out, q->room);
+    return ighdelmur_key(n[0] + q->more, n[1], n[2], n[3], n[4], s->text, ROOM, s->types, ROOM, s->boundaries, ROOM, s->char_pos, ROOM,
+                         s->byte_pos, ROOM, s->cell_starts, CELLS, s->cell_lengths, CELLS, s->tag_bytes, ROOM, out, q->room);
+}
+
+/* How many of the cells are looked at: those of the sentence, and some behind them. */
+static size_t looked_at(const struct sheet *s) { return s->numbers[3] + MARGIN < CELLS ? s->numbers[3] + MARGIN : CELLS; }
+
+/* Keeps what a sheet holds. */
+static void keep(struct sheet *kept, const struct sheet *s) {
+    size_t cells = looked_at(s) * sizeof s->cell_starts[0];
+    memcpy(kept, s, offsetof(struct sheet, cell_starts));
+    memcpy(kept->cell_starts, s->cell_starts, cells);
+    memcpy(kept->cell_lengths, s->cell_lengths, cells);
+}
+
+/* Whether a sheet holds what was kept of it. */
+static int is_kept(const struct sheet *kept, const struct sheet *s) {
+    size_t cells = looked_at(kept) * sizeof s->cell_starts[0];
+    return memcmp(kept, s, offsetof(struct sheet, cell_starts)) == 0 && memcmp(kept->cell_starts, s->cell_starts, cells) == 0 &&
+           memcmp(kept->cell_lengths, s->cell_lengths, cells) == 0;
 }
 
 /* Whether the output is as it was lent from a byte on, up to its room and a little further. */
@@ -72,13 +91,13 @@ static void ask(const uint8_t *line, size_t length, const struct question *q) {
     uint64_t answer = read_line(q->form, line, length, &sheet);
     if (!ighdelmur_refused(answer)) {
         memset(out, UNTOUCHED, q->room + MARGIN);
-        before = sheet;
+        keep(&before, &sheet);
         answer = strcmp(q->call, "key") == 0 ? write_key(&sheet, q) : withhold(&sheet, q);
         tell(answer, q->room);
         if (!is_left(ighdelmur_refused(answer) ? 0 : answer, q->room)) {
             printf(" output");
         }
-        if (memcmp(&before, &sheet, sizeof sheet) != 0) {
+        if (!is_kept(&before, &sheet)) {
             printf(" sheet");
         }
     } else {
@@ -98,7 +117,7 @@ int main(void) {
         for (size_t i = 0; i < length; i++) {
             line[i] = (uint8_t)(digit(hex[2 * i]) << 4 | digit(hex[2 * i + 1]));
         }
-        if (q.room > ROOM) {
+        if (q.room > OUTPUT) {
             fprintf(stderr, "there is no room of %zu bytes\n", q.room);
             return 1;
         }

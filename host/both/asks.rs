@@ -2,7 +2,7 @@
 
 use crate::original;
 use crate::parts::{Answer, Buffers, Form, Record, Refusal, AMPLE, LONGEST};
-use crate::port;
+use crate::port::{self, LONGEST_OUTPUT};
 use crate::rules;
 use oracle::draw::Draw;
 use std::fmt::{Debug, Display};
@@ -18,9 +18,6 @@ const MARGIN: usize = 8;
 
 /// What is asked of a copy in two places.
 const NO_RANGE: &str = "the copy's answer to a range that is none";
-
-/// The longest output that the conversion takes.
-const LONGEST_OUTPUT: usize = 1 << 20;
 
 /// The memory that is lent, and chance for the rest.
 pub struct Asks {
@@ -63,9 +60,9 @@ impl Asks {
         let count = 5 + self.draw.below(3);
         let given = port::read(form as u32, line, &mut self.buffers.lend(lengths), &mut numbers[..count]);
         same("the reader's answer", &given, &Ok(0))?;
-        let [n, b, columns, k, g] = answer.record.map(|number| number as u64);
-        let names = ["N", "B", "the columns", "K", "G", "a number behind the five", "a number behind the five"];
-        for ((name, given), wanted) in names.iter().zip(numbers).zip([n, b, columns, k, g, 7, 7]) {
+        let [n, b, columns, cells, g] = answer.record.map(|number| number as u64);
+        let names = ["N", "B", "the columns", "the cells", "G", "a number behind the five", "a number behind the five"];
+        for ((name, given), wanted) in names.iter().zip(numbers).zip([n, b, columns, cells, g, 7, 7]) {
             same(format_args!("the reader's numbers: {name}"), &given, &wanted)?;
         }
         self.is_sheet("the reader's", answer)?;
@@ -80,8 +77,8 @@ impl Asks {
         holds(format_args!("{whose} boundaries"), &held.boundaries, &wanted.boundaries)?;
         holds(format_args!("{whose} char positions"), &held.char_pos, &wanted.char_pos)?;
         holds(format_args!("{whose} byte positions"), &held.byte_pos, &wanted.byte_pos)?;
-        holds(format_args!("{whose} row ends"), &held.row_ends, &wanted.row_ends)?;
-        holds(format_args!("{whose} tag ends"), &held.tag_ends, &wanted.tag_ends)?;
+        holds(format_args!("{whose} cell starts"), &held.cell_starts, &wanted.cell_starts)?;
+        holds(format_args!("{whose} cell lengths"), &held.cell_lengths, &wanted.cell_lengths)?;
         holds(format_args!("{whose} tag bytes"), &held.tag_bytes, &wanted.tag_bytes)
     }
 
@@ -97,7 +94,7 @@ impl Asks {
         let given = port::read(form, line, &mut self.buffers.lend(lengths), &mut numbers[..count]);
         let written = self.buffers.lend(lengths.map(|length| length + MARGIN)).other_than(UNTOUCHED);
         if written.is_some() {
-            self.buffers = Buffers::filled(AMPLE.map(|length| length + 2 * MARGIN), UNTOUCHED);
+            self.buffers.lend(lengths.map(|length| length + MARGIN)).fill(UNTOUCHED);
         }
         same(what, &given, &Err(refusal))?;
         same("the numbers of a refused reader", &numbers, &[7; 5])?;
@@ -134,7 +131,8 @@ impl Asks {
         self.out_alone("the output of a refused conversion", room)
     }
 
-    /// A line converted to each written form behind some bytes, with room enough and, now and then, with a byte too little.
+    /// A line converted to each written form behind some bytes, with room enough and, now and then, with a byte too little. A sentence with more cells
+    /// than the conversion holds is refused, whatever the room.
     fn convert(&mut self, form: Form, line: &[u8], expected: &Result<Answer, Refusal>) -> Fault {
         for writer in [Form::Tokenized, Form::Partial] {
             let at = self.draw.below(5);
@@ -143,8 +141,10 @@ impl Asks {
             let room = if short { (at + written.len()).saturating_sub(1).max(at) } else { at + written.len() + self.draw.below(4) };
             let room = room.min(LONGEST_OUTPUT);
             let lacks = at + written.len() > room;
+            let too_wide = expected.as_ref().is_ok_and(|answer| rules::is_too_wide(answer.record));
             let wanted = match expected {
                 Err(refusal) => Err(*refusal),
+                Ok(_) if too_wide => Err(Refusal { number: 11, place: 0 }),
                 Ok(_) if lacks => Err(Refusal { number: 12, place: written.len() as u64 }),
                 Ok(_) => Ok((at + written.len()) as u64),
             };
@@ -157,7 +157,11 @@ impl Asks {
                     before.and(self.out_is("the converted line", &whole, room))
                 }
             };
-            let what = if lacks { "with short room" } else { "with room enough" };
+            let what = match (too_wide, lacks) {
+                (true, _) => "to a sentence with too many cells",
+                (_, true) => "with short room",
+                _ => "with room enough",
+            };
             same(format_args!("the conversion's answer {what}, to {}", writer.letter()), &given, &wanted)?;
             alone?;
         }
@@ -316,23 +320,37 @@ impl Asks {
         alone
     }
 
-    /// A sheet with one number of its record, one of its cells or one of its lengths changed.
+    /// A sheet with one number of its record, one of its lengths, its columns with their cells, the edge between two tags or one of its cells changed.
     fn altered(&mut self, answer: &Answer) -> (Record, Buffers, [usize; 8]) {
         let (mut record, mut buffers, mut lengths) = (answer.record, answer.buffers.clone(), answer.buffers.lengths());
         let which = self.draw.below(8);
-        match self.draw.below(4) {
+        match self.draw.below(5) {
             0 => record[which % 5] = record[which % 5].wrapping_add_signed(self.draw.one(&[1, -1, 5000, isize::MAX])),
             1 => lengths[which] = lengths[which].saturating_sub(1),
+            2 if record[3] > 1 && which % 2 == 0 => self.move_edge(&mut buffers),
+            2 => {
+                record[2] = if record[2] == 0 { 1 } else { record[2] + self.draw.one(&[1, 0]) * 2 - 1 };
+                record[3] = record[0] * record[2];
+            }
             _ => self.alter_cell(&mut buffers, which),
         }
         (record, buffers, lengths)
+    }
+
+    /// Moves by a byte where a cell of the tags ends and the next one starts; there are two cells or more.
+    fn move_edge(&mut self, buffers: &mut Buffers) {
+        let at = 1 + self.draw.below(buffers.cell_starts.len() - 1);
+        let amount = self.draw.one(&[1, -1]);
+        buffers.cell_lengths[at - 1] = buffers.cell_lengths[at - 1].wrapping_add_signed(amount);
+        buffers.cell_starts[at] = buffers.cell_starts[at].wrapping_add_signed(amount);
+        buffers.cell_lengths[at] = buffers.cell_lengths[at].wrapping_add_signed(-amount);
     }
 
     /// Changes a cell of one of the buffers.
     fn alter_cell(&mut self, buffers: &mut Buffers, which: usize) {
         let at = self.draw.below(buffers.lengths()[which].max(1));
         let bytes = [&mut buffers.text, &mut buffers.types, &mut buffers.boundaries, &mut buffers.tag_bytes];
-        let ends = [&mut buffers.char_pos, &mut buffers.byte_pos, &mut buffers.row_ends, &mut buffers.tag_ends];
+        let ends = [&mut buffers.char_pos, &mut buffers.byte_pos, &mut buffers.cell_starts, &mut buffers.cell_lengths];
         let cells = |buffer: usize| if buffer < 3 { buffer } else { 3 };
         match which {
             0..3 | 7 => {

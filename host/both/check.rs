@@ -38,10 +38,10 @@ fn options(words: &[&str]) -> Result<Options, Failure> {
 pub fn command(words: &[&str]) -> Outcome {
     let Options { long_run, only, seed } = options(words)?;
     let (mut run, mut draw) = (Run::new(seed), Draw::new(seed));
-    let (drawn, near, wide, most) = match only {
-        Some(count) => (count, count.div_ceil(50), count.div_ceil(50), 200),
-        None if long_run => (600_000, 4_000, 20_000, 1_000),
-        None => (2_500, 20, 60, 200),
+    let (drawn, near, wide, crowded, most) = match only {
+        Some(count) => (count, count.div_ceil(50), count.div_ceil(50), count.div_ceil(50), 200),
+        None if long_run => (600_000, 4_000, 20_000, 2_000, 1_000),
+        None => (2_500, 20, 60, 60, 200),
     };
     if only.is_none() {
         for asked in lines::recorded().into_iter().chain(lines::short(long_run)) {
@@ -57,8 +57,12 @@ pub fn command(words: &[&str]) -> Outcome {
     for _ in 0..wide {
         run.line(lines::wide(&mut draw, most))?;
     }
+    for _ in 0..crowded {
+        run.line(lines::crowded(&mut draw))?;
+    }
     if long_run {
         run.line(lines::longest())?;
+        run.line(lines::most_cells())?;
     }
     Ok(run.finish()?)
 }
@@ -100,7 +104,11 @@ impl Run {
     /// Asks about a line in a form.
     fn ask(&mut self, form: Form, line: &[u8]) -> Result<(), String> {
         let expected = expected(form, line)?;
-        let name = expected.as_ref().map_or_else(|refusal| format!("of refusal {}", refusal.number), |_| "accepted".into());
+        let name = match &expected {
+            Err(refusal) => format!("of refusal {}", refusal.number),
+            Ok(answer) if rules::is_too_wide(answer.record) => "accepted with over 2,048 cells".into(),
+            Ok(_) => "accepted".into(),
+        };
         *self.answers.entry(name).or_default() += 1;
         self.asks.line(form, line, &expected)
     }

@@ -1,9 +1,9 @@
 //! Each line of files, read and written by both sides; docs/COMPARING.md is the guide.
 
 use crate::original;
-use crate::parts::{seen, visible, Form, Refusal};
+use crate::parts::{or_refused, seen, visible, Answer, Form, Refusal};
 use crate::port::Port;
-use crate::{Failure, Outcome};
+use crate::{rules, Failure, Outcome};
 use std::collections::BTreeMap;
 use std::fs::File;
 use std::io::{self, stdout, BufRead, BufReader, BufWriter, Write};
@@ -57,8 +57,9 @@ impl Summary {
 
     fn told(&self, of: &str) -> String {
         let differing: u64 = self.items.values().sum();
-        let items: Vec<String> =
-            self.items.iter().filter(|(item, _)| **item != UNEXPLAINED).map(|(item, count)| format!("{item}: {count}")).collect();
+        let mut items: Vec<_> = self.items.iter().filter(|(item, _)| **item != UNEXPLAINED).collect();
+        items.sort_by_key(|(item, _)| (item.len(), **item));
+        let items: Vec<String> = items.iter().map(|(item, count)| format!("{item}: {count}")).collect();
         let explained = if items.is_empty() { String::new() } else { format!("{}, ", items.join(", ")) };
         format!(
             "{of}: {} lines, {} alike ({} accepted, {} refused), {differing} different ({explained}{UNEXPLAINED}: {})",
@@ -158,8 +159,8 @@ impl<W: Write> Report<W> {
 }
 
 /// How both sides differ on a line, and whether the port accepts it.
-fn differences(port: &mut Port, form: Form, line: &[u8]) -> (Vec<Difference>, bool) {
-    let given = port.outcome(form, line);
+fn differences(asked: &mut Port, form: Form, line: &[u8]) -> (Vec<Difference>, bool) {
+    let given = asked.outcome(form, line);
     let accepted = given.is_ok();
     let port = given.as_ref().map_or_else(Refusal::to_string, |_| "accepts".into());
     let whole = |original, item| vec![Difference { part: "answer", original, port: port.clone(), item }];
@@ -177,7 +178,7 @@ fn differences(port: &mut Port, form: Form, line: &[u8]) -> (Vec<Difference>, bo
         }
     };
     let found = match (original::outcome(form, text), given) {
-        (Ok(told), Ok(given)) if told == given => vec![],
+        (Ok(told), Ok(given)) if told == given => converted(asked, form, line, &told),
         (Ok(told), Ok(given)) => told
             .parts()
             .into_iter()
@@ -190,6 +191,19 @@ fn differences(port: &mut Port, form: Form, line: &[u8]) -> (Vec<Difference>, bo
         (Ok(_), Err(_)) => whole("accepts".into(), None),
     };
     (found, accepted)
+}
+
+/// How the conversion differs from the lines that the original writes. A sentence with more cells than it holds is refused by 11.
+fn converted(port: &mut Port, form: Form, line: &[u8], told: &Answer) -> Vec<Difference> {
+    let mut found = vec![];
+    for (part, writer) in [("converted to tokenized", Form::Tokenized), ("converted to partial", Form::Partial)] {
+        let (wanted, given) = (told.written(writer), port.converted(form, writer, line));
+        if given.as_deref() != Ok(wanted) {
+            let item = (rules::is_too_wide(told.record) && given == Err(Refusal { number: 11, place: 0 })).then_some("D13");
+            found.push(Difference { part, original: visible(wanted), port: or_refused(&given, |line| visible(line)), item });
+        }
+    }
+    found
 }
 
 fn said(message: String) -> String {

@@ -83,6 +83,23 @@ pub fn wide(draw: &mut Draw, most: usize) -> Asked {
     ("wide", line.into_bytes())
 }
 
+/// A line whose sentence, tokenized or partial, has about as many cells as the conversion holds, or as it makes room for on shorter lines.
+pub fn crowded(draw: &mut Draw) -> Asked {
+    let cells = draw.one(&[256, 512, 2048, 2048]);
+    let characters = draw.one(&[1, 2, 3, 16, 32, 45, 64, 128, 500, 1024, 1025, 2047]);
+    let columns = cells / characters + draw.below(2);
+    let (before, after) = (characters / draw.one(&[1, 2, 1 << 20]), draw.one(&["", "x", "あ"]));
+    let tags = "/".repeat(columns) + after;
+    let mut words = vec!["b".to_string(); characters];
+    words[before.saturating_sub(1)] += &tags;
+    ("with many cells", words.join(draw.one(&[" ", " ", "|"])).into_bytes())
+}
+
+/// The tokenized line of 4,096 bytes that has the most cells: 2,048 characters with 2,048 columns.
+pub fn most_cells() -> Asked {
+    ("with the most cells", ["b".repeat(2048), "/".repeat(2048)].concat().into_bytes())
+}
+
 /// The line of 4,096 bytes that is written back to the most: as partial, 1,025 slashes with 2,047 columns.
 pub fn longest() -> Asked {
     ("longest", ["/".repeat(2048), "|/".repeat(1024)].concat().into_bytes())

@@ -52,7 +52,7 @@ fn place(form: Form, line: &str, message: &str) -> usize {
 
 /// A sentence of the original laid out as document 01 says.
 pub fn answered(sentence: &Sentence) -> Answer {
-    let (row_ends, tag_ends, tag_bytes) = tags(sentence);
+    let (cell_starts, cell_lengths, tag_bytes) = tags(sentence);
     let narrow = |positions: &[usize]| positions.iter().map(|&p| p as u16).collect();
     let buffers = Buffers {
         text: sentence.as_raw_text().into(),
@@ -60,8 +60,8 @@ pub fn answered(sentence: &Sentence) -> Answer {
         boundaries: sentence.boundaries().iter().map(|&b| b as u8).collect(),
         char_pos: narrow(inside::char_positions(sentence)),
         byte_pos: narrow(inside::byte_positions(sentence)),
-        row_ends,
-        tag_ends,
+        cell_starts,
+        cell_lengths,
         tag_bytes,
     };
     let mut tokenized = String::new();
@@ -69,7 +69,7 @@ pub fn answered(sentence: &Sentence) -> Answer {
     let mut partial = String::new();
     sentence.write_partial_annotation_text(&mut partial);
     Answer {
-        record: [buffers.types.len(), buffers.text.len(), sentence.n_tags(), buffers.tag_ends.len(), buffers.tag_bytes.len()],
+        record: [buffers.types.len(), buffers.text.len(), sentence.n_tags(), buffers.cell_lengths.len(), buffers.tag_bytes.len()],
         tokens: Ok(sentence.iter_tokens().map(|t| [t.start() as u64, t.end() as u64]).collect()),
         tokenized: Ok(tokenized.into()),
         partial: Ok(partial.into()),
@@ -77,19 +77,16 @@ pub fn answered(sentence: &Sentence) -> Answer {
     }
 }
 
-/// Row ends, tag ends and tag bytes: each row of the padded table up to its last present tag.
+/// The cells of the padded table, row after row: where each starts among the tag bytes, how many it has, and the bytes.
 fn tags(sentence: &Sentence) -> (Vec<u16>, Vec<u16>, Vec<u8>) {
-    let (mut row_ends, mut tag_ends, mut tag_bytes) = (vec![], vec![], vec![]);
-    for i in 0..sentence.char_types().len() {
-        let row = &sentence.tags()[i * sentence.n_tags()..(i + 1) * sentence.n_tags()];
-        let listed = row.iter().rposition(Option::is_some).map_or(0, |last| last + 1);
-        for tag in &row[..listed] {
-            tag_bytes.extend(tag.as_ref().map_or("", |t| t).bytes());
-            tag_ends.push(tag_bytes.len() as u16);
-        }
-        row_ends.push(tag_ends.len() as u16);
+    let (mut cell_starts, mut cell_lengths, mut tag_bytes) = (vec![], vec![], vec![]);
+    for tag in sentence.tags() {
+        let tag = tag.as_ref().map_or("", |tag| tag);
+        cell_starts.push(tag_bytes.len() as u16);
+        cell_lengths.push(tag.len() as u16);
+        tag_bytes.extend(tag.bytes());
     }
-    (row_ends, tag_ends, tag_bytes)
+    (cell_starts, cell_lengths, tag_bytes)
 }
 
 /// A step of the original's token iterator set down at a place: a token or none, and where it stands after.

@@ -39,7 +39,7 @@ impl std::fmt::Display for Refusal {
     }
 }
 
-/// N, B, columns, K and G.
+/// N, B, columns, cells and G.
 pub type Record = [usize; 5];
 
 /// The eight buffers of a sheet, each as long as it needs to be.
@@ -50,8 +50,8 @@ pub struct Buffers {
     pub boundaries: Vec<u8>,
     pub char_pos: Vec<u16>,
     pub byte_pos: Vec<u16>,
-    pub row_ends: Vec<u16>,
-    pub tag_ends: Vec<u16>,
+    pub cell_starts: Vec<u16>,
+    pub cell_lengths: Vec<u16>,
     pub tag_bytes: Vec<u8>,
 }
 
@@ -64,15 +64,15 @@ impl Buffers {
             self.boundaries.len(),
             self.char_pos.len(),
             self.byte_pos.len(),
-            self.row_ends.len(),
-            self.tag_ends.len(),
+            self.cell_starts.len(),
+            self.cell_lengths.len(),
             self.tag_bytes.len(),
         ]
     }
 
     /// Buffers of given lengths, all cells alike.
     pub fn filled(lengths: [usize; 8], byte: u8) -> Self {
-        let [text, types, boundaries, char_pos, byte_pos, row_ends, tag_ends, tag_bytes] = lengths;
+        let [text, types, boundaries, char_pos, byte_pos, cell_starts, cell_lengths, tag_bytes] = lengths;
         let cell = u16::from_ne_bytes([byte, byte]);
         Self {
             text: vec![byte; text],
@@ -80,23 +80,23 @@ impl Buffers {
             boundaries: vec![byte; boundaries],
             char_pos: vec![cell; char_pos],
             byte_pos: vec![cell; byte_pos],
-            row_ends: vec![cell; row_ends],
-            tag_ends: vec![cell; tag_ends],
+            cell_starts: vec![cell; cell_starts],
+            cell_lengths: vec![cell; cell_lengths],
             tag_bytes: vec![byte; tag_bytes],
         }
     }
 
     /// The front of each buffer, lent.
     pub fn lend(&mut self, lengths: [usize; 8]) -> Lent<'_> {
-        let [text, types, boundaries, char_pos, byte_pos, row_ends, tag_ends, tag_bytes] = lengths;
+        let [text, types, boundaries, char_pos, byte_pos, cell_starts, cell_lengths, tag_bytes] = lengths;
         Lent {
             text: &mut self.text[..text],
             types: &mut self.types[..types],
             boundaries: &mut self.boundaries[..boundaries],
             char_pos: &mut self.char_pos[..char_pos],
             byte_pos: &mut self.byte_pos[..byte_pos],
-            row_ends: &mut self.row_ends[..row_ends],
-            tag_ends: &mut self.tag_ends[..tag_ends],
+            cell_starts: &mut self.cell_starts[..cell_starts],
+            cell_lengths: &mut self.cell_lengths[..cell_lengths],
             tag_bytes: &mut self.tag_bytes[..tag_bytes],
         }
     }
@@ -109,8 +109,8 @@ pub struct Lent<'a> {
     pub boundaries: &'a mut [u8],
     pub char_pos: &'a mut [u16],
     pub byte_pos: &'a mut [u16],
-    pub row_ends: &'a mut [u16],
-    pub tag_ends: &'a mut [u16],
+    pub cell_starts: &'a mut [u16],
+    pub cell_lengths: &'a mut [u16],
     pub tag_bytes: &'a mut [u8],
 }
 
@@ -119,22 +119,29 @@ impl Lent<'_> {
     pub fn fill(&mut self, byte: u8) {
         let cell = u16::from_ne_bytes([byte, byte]);
         [&mut *self.text, &mut *self.types, &mut *self.boundaries, &mut *self.tag_bytes].into_iter().for_each(|bytes| bytes.fill(byte));
-        [&mut *self.char_pos, &mut *self.byte_pos, &mut *self.row_ends, &mut *self.tag_ends].into_iter().for_each(|cells| cells.fill(cell));
+        [&mut *self.char_pos, &mut *self.byte_pos, &mut *self.cell_starts, &mut *self.cell_lengths].into_iter().for_each(|cells| cells.fill(cell));
     }
 
     /// The name of a buffer that has another byte than this one, if there is such.
     pub fn other_than(&self, byte: u8) -> Option<&'static str> {
         let cell = u16::from_ne_bytes([byte, byte]);
         let bytes = [("text", &*self.text), ("types", &*self.types), ("boundaries", &*self.boundaries), ("tag bytes", &*self.tag_bytes)];
-        let ends =
-            [("char positions", &*self.char_pos), ("byte positions", &*self.byte_pos), ("row ends", &*self.row_ends), ("tag ends", &*self.tag_ends)];
+        let ends = [
+            ("char positions", &*self.char_pos),
+            ("byte positions", &*self.byte_pos),
+            ("cell starts", &*self.cell_starts),
+            ("cell lengths", &*self.cell_lengths),
+        ];
         let byte = bytes.iter().find(|(_, cells)| cells.iter().any(|&b| b != byte));
         byte.map(|(name, _)| *name).or_else(|| ends.iter().find(|(_, cells)| cells.iter().any(|&c| c != cell)).map(|(name, _)| *name))
     }
 }
 
+/// The most cells of a line of 4,096 bytes: characters and columns together are at most its bytes.
+const CELLS: usize = 2048 * 2048;
+
 /// The lengths that hold the sentence of any line of 4,096 bytes.
-pub const AMPLE: [usize; 8] = [4096, 4096, 4096, 4097, 4097, 4096, 4096, 4096];
+pub const AMPLE: [usize; 8] = [4096, 4096, 4096, 4097, 4097, CELLS, CELLS, 4096];
 
 /// The longest line that a line of 4,096 bytes can be written back to.
 pub const LONGEST: usize = 2_101_249;
@@ -158,18 +165,18 @@ impl Answer {
 
     /// Each part by its name, made visible.
     pub fn parts(&self) -> [(&'static str, String); 13] {
-        let [n, b, columns, k, g] = self.record;
+        let [n, b, columns, cells, g] = self.record;
         let held = &self.buffers;
         [
-            ("numbers", format!("N {n}, B {b}, K {k}, G {g}")),
+            ("numbers", format!("N {n}, B {b}, cells {cells}, G {g}")),
             ("columns", columns.to_string()),
             ("text", visible(&held.text)),
             ("types", numbers(&held.types)),
             ("boundaries", numbers(&held.boundaries)),
             ("char positions", numbers(&held.char_pos)),
             ("byte positions", numbers(&held.byte_pos)),
-            ("row ends", numbers(&held.row_ends)),
-            ("tag ends", numbers(&held.tag_ends)),
+            ("cell starts", numbers(&held.cell_starts)),
+            ("cell lengths", numbers(&held.cell_lengths)),
             ("tag bytes", visible(&held.tag_bytes)),
             ("tokens", or_refused(&self.tokens, |tokens| spans(tokens))),
             ("tokenized line", or_refused(&self.tokenized, |line| visible(line))),
@@ -179,7 +186,7 @@ impl Answer {
 }
 
 /// A part made visible, or the refusal that stands in its place.
-fn or_refused<T>(part: &Result<T, Refusal>, show: impl Fn(&T) -> String) -> String {
+pub fn or_refused<T>(part: &Result<T, Refusal>, show: impl Fn(&T) -> String) -> String {
     part.as_ref().map_or_else(Refusal::to_string, show)
 }
 

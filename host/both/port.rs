@@ -2,6 +2,9 @@
 
 use crate::parts::{Answer, Buffers, Form, Lent, Record, Refusal, AMPLE, LONGEST};
 
+/// The longest output that the conversion takes.
+pub const LONGEST_OUTPUT: usize = 1 << 20;
+
 /// What the static libraries of crates/convert and crates/exports offer: a slice is a pointer and a length.
 mod exported {
     #[link(name = "convert", kind = "static")]
@@ -25,10 +28,10 @@ mod exported {
             char_pos_room: usize,
             byte_pos: *mut u16,
             byte_pos_room: usize,
-            row_ends: *mut u16,
-            row_ends_room: usize,
-            tag_ends: *mut u16,
-            tag_ends_room: usize,
+            cell_starts: *mut u16,
+            cell_starts_room: usize,
+            cell_lengths: *mut u16,
+            cell_lengths_room: usize,
             tag_bytes: *mut u8,
             tag_bytes_room: usize,
             numbers: *mut u64,
@@ -40,7 +43,7 @@ mod exported {
             n: usize,
             b: usize,
             columns: usize,
-            k: usize,
+            cells: usize,
             g: usize,
             text: *const u8,
             text_room: usize,
@@ -52,10 +55,10 @@ mod exported {
             char_pos_room: usize,
             byte_pos: *const u16,
             byte_pos_room: usize,
-            row_ends: *const u16,
-            row_ends_room: usize,
-            tag_ends: *const u16,
-            tag_ends_room: usize,
+            cell_starts: *const u16,
+            cell_starts_room: usize,
+            cell_lengths: *const u16,
+            cell_lengths_room: usize,
             tag_bytes: *const u8,
             tag_bytes_room: usize,
             out: *mut u8,
@@ -66,7 +69,7 @@ mod exported {
             n: usize,
             b: usize,
             columns: usize,
-            k: usize,
+            cells: usize,
             g: usize,
             text: *const u8,
             text_room: usize,
@@ -78,10 +81,10 @@ mod exported {
             char_pos_room: usize,
             byte_pos: *const u16,
             byte_pos_room: usize,
-            row_ends: *const u16,
-            row_ends_room: usize,
-            tag_ends: *const u16,
-            tag_ends_room: usize,
+            cell_starts: *const u16,
+            cell_starts_room: usize,
+            cell_lengths: *const u16,
+            cell_lengths_room: usize,
             tag_bytes: *const u8,
             tag_bytes_room: usize,
             start: usize,
@@ -94,7 +97,7 @@ mod exported {
             n: usize,
             b: usize,
             columns: usize,
-            k: usize,
+            cells: usize,
             g: usize,
             text: *const u8,
             text_room: usize,
@@ -106,10 +109,10 @@ mod exported {
             char_pos_room: usize,
             byte_pos: *const u16,
             byte_pos_room: usize,
-            row_ends: *const u16,
-            row_ends_room: usize,
-            tag_ends: *const u16,
-            tag_ends_room: usize,
+            cell_starts: *const u16,
+            cell_starts_room: usize,
+            cell_lengths: *const u16,
+            cell_lengths_room: usize,
             tag_bytes: *const u8,
             tag_bytes_room: usize,
             out: *mut u8,
@@ -120,7 +123,7 @@ mod exported {
             n: usize,
             b: usize,
             columns: usize,
-            k: usize,
+            cells: usize,
             g: usize,
             text: *const u8,
             text_room: usize,
@@ -132,10 +135,10 @@ mod exported {
             char_pos_room: usize,
             byte_pos: *const u16,
             byte_pos_room: usize,
-            row_ends: *const u16,
-            row_ends_room: usize,
-            tag_ends: *const u16,
-            tag_ends_room: usize,
+            cell_starts: *const u16,
+            cell_starts_room: usize,
+            cell_lengths: *const u16,
+            cell_lengths_room: usize,
             tag_bytes: *const u8,
             tag_bytes_room: usize,
             p: usize,
@@ -159,7 +162,7 @@ pub fn convert(reader: u32, writer: u32, line: &[u8], out: &mut [u8], at: usize)
     spoil::convert(converted, out, at)
 }
 
-/// The line read into lent buffers: 0, and N, B, columns, K and G in the first five numbers.
+/// The line read into lent buffers: 0, and N, B, columns, cells and G in the first five numbers.
 pub fn read(form: u32, line: &[u8], lent: &mut Lent, numbers: &mut [u64]) -> Result<u64, Refusal> {
     let read = taken(unsafe {
         exported::ighdelmur_read(
@@ -176,10 +179,10 @@ pub fn read(form: u32, line: &[u8], lent: &mut Lent, numbers: &mut [u64]) -> Res
             lent.char_pos.len(),
             lent.byte_pos.as_mut_ptr(),
             lent.byte_pos.len(),
-            lent.row_ends.as_mut_ptr(),
-            lent.row_ends.len(),
-            lent.tag_ends.as_mut_ptr(),
-            lent.tag_ends.len(),
+            lent.cell_starts.as_mut_ptr(),
+            lent.cell_starts.len(),
+            lent.cell_lengths.as_mut_ptr(),
+            lent.cell_lengths.len(),
             lent.tag_bytes.as_mut_ptr(),
             lent.tag_bytes.len(),
             numbers.as_mut_ptr(),
@@ -190,14 +193,14 @@ pub fn read(form: u32, line: &[u8], lent: &mut Lent, numbers: &mut [u64]) -> Res
 }
 
 /// The sentence of lent buffers written into the output: its length.
-pub fn write(form: u32, [n, b, columns, k, g]: Record, lent: &Lent, out: &mut [u8]) -> Result<u64, Refusal> {
+pub fn write(form: u32, [n, b, columns, cells, g]: Record, lent: &Lent, out: &mut [u8]) -> Result<u64, Refusal> {
     let wrote = taken(unsafe {
         exported::ighdelmur_write(
             form,
             n,
             b,
             columns,
-            k,
+            cells,
             g,
             lent.text.as_ptr(),
             lent.text.len(),
@@ -209,10 +212,10 @@ pub fn write(form: u32, [n, b, columns, k, g]: Record, lent: &Lent, out: &mut [u
             lent.char_pos.len(),
             lent.byte_pos.as_ptr(),
             lent.byte_pos.len(),
-            lent.row_ends.as_ptr(),
-            lent.row_ends.len(),
-            lent.tag_ends.as_ptr(),
-            lent.tag_ends.len(),
+            lent.cell_starts.as_ptr(),
+            lent.cell_starts.len(),
+            lent.cell_lengths.as_ptr(),
+            lent.cell_lengths.len(),
             lent.tag_bytes.as_ptr(),
             lent.tag_bytes.len(),
             out.as_mut_ptr(),
@@ -223,13 +226,13 @@ pub fn write(form: u32, [n, b, columns, k, g]: Record, lent: &Lent, out: &mut [u
 }
 
 /// The partial line of the sentence of lent buffers, with the labels of a range withheld, written into the output: its length.
-pub fn withhold([n, b, columns, k, g]: Record, lent: &Lent, start: usize, end: usize, out: &mut [u8]) -> Result<u64, Refusal> {
+pub fn withhold([n, b, columns, cells, g]: Record, lent: &Lent, start: usize, end: usize, out: &mut [u8]) -> Result<u64, Refusal> {
     let wrote = taken(unsafe {
         exported::ighdelmur_withhold(
             n,
             b,
             columns,
-            k,
+            cells,
             g,
             lent.text.as_ptr(),
             lent.text.len(),
@@ -241,10 +244,10 @@ pub fn withhold([n, b, columns, k, g]: Record, lent: &Lent, start: usize, end: u
             lent.char_pos.len(),
             lent.byte_pos.as_ptr(),
             lent.byte_pos.len(),
-            lent.row_ends.as_ptr(),
-            lent.row_ends.len(),
-            lent.tag_ends.as_ptr(),
-            lent.tag_ends.len(),
+            lent.cell_starts.as_ptr(),
+            lent.cell_starts.len(),
+            lent.cell_lengths.as_ptr(),
+            lent.cell_lengths.len(),
             lent.tag_bytes.as_ptr(),
             lent.tag_bytes.len(),
             start,
@@ -257,13 +260,13 @@ pub fn withhold([n, b, columns, k, g]: Record, lent: &Lent, start: usize, end: u
 }
 
 /// The key of the sentence of lent buffers, written into the output: its length.
-pub fn key([n, b, columns, k, g]: Record, lent: &Lent, out: &mut [u8]) -> Result<u64, Refusal> {
+pub fn key([n, b, columns, cells, g]: Record, lent: &Lent, out: &mut [u8]) -> Result<u64, Refusal> {
     let wrote = taken(unsafe {
         exported::ighdelmur_key(
             n,
             b,
             columns,
-            k,
+            cells,
             g,
             lent.text.as_ptr(),
             lent.text.len(),
@@ -275,10 +278,10 @@ pub fn key([n, b, columns, k, g]: Record, lent: &Lent, out: &mut [u8]) -> Result
             lent.char_pos.len(),
             lent.byte_pos.as_ptr(),
             lent.byte_pos.len(),
-            lent.row_ends.as_ptr(),
-            lent.row_ends.len(),
-            lent.tag_ends.as_ptr(),
-            lent.tag_ends.len(),
+            lent.cell_starts.as_ptr(),
+            lent.cell_starts.len(),
+            lent.cell_lengths.as_ptr(),
+            lent.cell_lengths.len(),
             lent.tag_bytes.as_ptr(),
             lent.tag_bytes.len(),
             out.as_mut_ptr(),
@@ -289,13 +292,13 @@ pub fn key([n, b, columns, k, g]: Record, lent: &Lent, out: &mut [u8]) -> Result
 }
 
 /// A step of the token cursor from `p`: 1 and a token's start and end, or 0 and where the cursor stands.
-pub fn next_token([n, b, columns, k, g]: Record, lent: &Lent, p: usize, span: &mut [u64]) -> Result<u64, Refusal> {
+pub fn next_token([n, b, columns, cells, g]: Record, lent: &Lent, p: usize, span: &mut [u64]) -> Result<u64, Refusal> {
     let stepped = taken(unsafe {
         exported::ighdelmur_next_token(
             n,
             b,
             columns,
-            k,
+            cells,
             g,
             lent.text.as_ptr(),
             lent.text.len(),
@@ -307,10 +310,10 @@ pub fn next_token([n, b, columns, k, g]: Record, lent: &Lent, p: usize, span: &m
             lent.char_pos.len(),
             lent.byte_pos.as_ptr(),
             lent.byte_pos.len(),
-            lent.row_ends.as_ptr(),
-            lent.row_ends.len(),
-            lent.tag_ends.as_ptr(),
-            lent.tag_ends.len(),
+            lent.cell_starts.as_ptr(),
+            lent.cell_starts.len(),
+            lent.cell_lengths.as_ptr(),
+            lent.cell_lengths.len(),
             lent.tag_bytes.as_ptr(),
             lent.tag_bytes.len(),
             p,
@@ -332,7 +335,13 @@ impl Port {
         Self { buffers: Buffers::filled(AMPLE, 0), out: vec![0; LONGEST] }
     }
 
-    /// All that the port says of a line.
+    /// The line converted to a form, with the most room that the conversion takes.
+    pub fn converted(&mut self, form: Form, writer: Form, line: &[u8]) -> Result<Vec<u8>, Refusal> {
+        let out = &mut self.out[..LONGEST_OUTPUT];
+        convert(form as u32, writer as u32, line, out, 0).map(|end| out[..out.len().min(end as usize)].to_vec())
+    }
+
+    /// All that the port's other calls say of a line.
     pub fn outcome(&mut self, form: Form, line: &[u8]) -> Result<Answer, Refusal> {
         let mut lent = self.buffers.lend(AMPLE);
         let mut numbers = [0; 5];
@@ -355,7 +364,7 @@ fn tokens(record: Record, lent: &Lent) -> Result<Vec<[u64; 2]>, Refusal> {
 }
 
 /// What a record says of lent buffers, as far as they go.
-fn held([n, b, _, k, g]: Record, lent: &Lent) -> Buffers {
+fn held([n, b, _, cells, g]: Record, lent: &Lent) -> Buffers {
     fn front<T: Copy>(of: &[T], length: usize) -> Vec<T> {
         of[..length.min(of.len())].to_vec()
     }
@@ -365,8 +374,8 @@ fn held([n, b, _, k, g]: Record, lent: &Lent) -> Buffers {
         boundaries: front(lent.boundaries, n.saturating_sub(1)),
         char_pos: front(lent.char_pos, n.saturating_add(1)),
         byte_pos: front(lent.byte_pos, b.saturating_add(1)),
-        row_ends: front(lent.row_ends, n),
-        tag_ends: front(lent.tag_ends, k),
+        cell_starts: front(lent.cell_starts, cells),
+        cell_lengths: front(lent.cell_lengths, cells),
         tag_bytes: front(lent.tag_bytes, g),
     }
 }

@@ -1,4 +1,4 @@
-//! Document 01's refusals once more, written from its text and not from the original.
+//! Document 01's refusals once more, with those that document 02 adds, written from their text and not from the original.
 
 use crate::parts::{Form, Lent, Record, Refusal};
 use vaporetto::CharacterType;
@@ -76,21 +76,26 @@ fn partial(line: &str) -> Option<(u64, usize)> {
     }
 }
 
-/// Whether a record and buffers are a sentence as document 01 lays it out, within its limits.
-pub fn is_sheet([n, b, columns, k, g]: Record, lent: &Lent) -> bool {
-    let limits = n >= 1 && b <= 4096 && n <= b && columns <= 4096 && k <= 65535 && g <= 65535;
+/// Whether a sentence has more cells than the conversion and `respell` hold: they refuse it by 11, after all refusals of the line and before 12.
+pub fn is_too_wide([n, _, columns, ..]: Record) -> bool {
+    n * columns > 2048
+}
+
+/// Whether a record and buffers are a sentence as it is laid out, within the limits.
+pub fn is_sheet([n, b, columns, cells, g]: Record, lent: &Lent) -> bool {
+    let limits = n >= 1 && b <= 4096 && n <= b && columns <= 4096 && cells == n * columns && g <= 65535;
     limits
         && lent.text.len() >= b
         && lent.types.len() >= n
         && lent.boundaries.len() >= n - 1
         && lent.char_pos.len() > n
         && lent.byte_pos.len() > b
-        && lent.row_ends.len() >= n
-        && lent.tag_ends.len() >= k
+        && lent.cell_starts.len() >= cells
+        && lent.cell_lengths.len() >= cells
         && lent.tag_bytes.len() >= g
         && characters(n, b, lent)
         && lent.boundaries[..n - 1].iter().all(|&mark| mark <= 2)
-        && rows(columns, &lent.row_ends[..n], &lent.tag_ends[..k], &lent.tag_bytes[..g])
+        && tags(&lent.cell_starts[..cells], &lent.cell_lengths[..cells], &lent.tag_bytes[..g])
 }
 
 /// The text, its types and its two position maps.
@@ -105,28 +110,17 @@ fn characters(n: usize, b: usize, lent: &Lent) -> bool {
         && numbers == lent.byte_pos[..b + 1]
 }
 
-/// Rows that run through the listed tags, each of at most `columns` of them and ending in a present one; tags that run through their bytes.
-fn rows(columns: usize, row_ends: &[u16], tag_ends: &[u16], bytes: &[u8]) -> bool {
-    let (mut row, mut tag) = (0, 0);
-    for &end in tag_ends {
-        let end = end as usize;
-        if end < tag || end > bytes.len() || clean(&bytes[tag..end]).is_none() {
+/// Cells that run through the tag bytes: each starts where the one before it ends, and the last ends where they end.
+fn tags(starts: &[u16], lengths: &[u16], bytes: &[u8]) -> bool {
+    let mut at = 0;
+    for (&start, &length) in starts.iter().zip(lengths) {
+        let end = at + length as usize;
+        if start as usize != at || end > bytes.len() || clean(&bytes[at..end]).is_none() {
             return false;
         }
-        tag = end;
+        at = end;
     }
-    for &end in row_ends {
-        let end = end as usize;
-        if end < row || end > tag_ends.len() || end - row > columns {
-            return false;
-        }
-        let before = if end >= 2 { tag_ends[end - 2] } else { 0 };
-        if end > row && tag_ends[end - 1] == before {
-            return false;
-        }
-        row = end;
-    }
-    row == tag_ends.len() && tag == bytes.len()
+    at == bytes.len()
 }
 
 /// Bytes as text, where they are UTF-8 without NUL.

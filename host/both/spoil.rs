@@ -82,8 +82,8 @@ pub fn read(given: Given, lent: &mut Lent, numbers: &mut [u64]) -> Given {
     let ends = [
         ("char positions", &mut *lent.char_pos),
         ("byte positions", &mut *lent.byte_pos),
-        ("row ends", &mut *lent.row_ends),
-        ("tag ends", &mut *lent.tag_ends),
+        ("cell starts", &mut *lent.cell_starts),
+        ("cell lengths", &mut *lent.cell_lengths),
     ];
     if given.is_err() {
         bytes.into_iter().filter(|(name, _)| part == format!("{name} where refused")).for_each(|(_, cells)| touch(cells, 0));
@@ -91,16 +91,36 @@ pub fn read(given: Given, lent: &mut Lent, numbers: &mut [u64]) -> Given {
         touch(numbers, if part == "numbers where refused" { 0 } else { usize::MAX });
         return answer(part, given);
     }
-    let [n, b, _, k, g] = [0, 1, 2, 3, 4].map(|i| numbers[i] as usize);
+    let [n, b, columns, cells, g] = [0, 1, 2, 3, 4].map(|i| numbers[i] as usize);
     for ((name, cells), length) in bytes.into_iter().zip([b, n, n.saturating_sub(1), g]) {
         spoiled(part, name, cells, length);
     }
-    for ((name, cells), length) in ends.into_iter().zip([n + 1, b + 1, n, k]) {
+    for ((name, cells), length) in ends.into_iter().zip([n + 1, b + 1, cells, cells]) {
         spoiled(part, name, cells, length);
     }
-    let names = ["N", "B", "columns", "K", "G", "number behind"];
+    let names = ["N", "B", "columns", "cells", "G", "number behind"];
     names.iter().position(|name| part == *name).into_iter().for_each(|at| touch(numbers, at));
+    let (starts, lengths) = (&mut lent.cell_starts[..cells], &mut lent.cell_lengths[..cells]);
+    match part {
+        "starts of absent tags" => starts.iter_mut().zip(&*lengths).filter(|(_, &length)| length == 0).for_each(|(start, _)| *start = 0),
+        "starts in their rows" => starts.chunks_mut(columns.max(1)).for_each(from_the_first),
+        "ends for lengths" => lengths.iter_mut().zip(&*starts).for_each(|(length, start)| *length += start),
+        "lengths of the next cells" if cells > 0 => lengths.rotate_left(1),
+        "listed tags for cells" => numbers[3] = lengths.chunks(columns.max(1)).map(listed).sum(),
+        _ => {}
+    }
     answer(part, given)
+}
+
+/// Counts the starts of a row from its first one on.
+fn from_the_first(row: &mut [u16]) {
+    let first = row[0];
+    row.iter_mut().for_each(|start| *start -= first);
+}
+
+/// How many cells a row has up to its last present tag.
+fn listed(lengths: &[u16]) -> u64 {
+    lengths.iter().rposition(|&length| length > 0).map_or(0, |last| last as u64 + 1)
 }
 
 /// Makes a buffer wrong that holds so many cells: its first, its last, the one behind them, or the one behind what was lent.
