@@ -1,15 +1,15 @@
--- The stores of a character's bytes and numbers, of a value for the character before, and of a repeated value. Assumes nothing.
+-- The stores of a character's bytes and numbers, of a value for the character before, and of cells. Assumes nothing.
 use Prim.Native.Nat.{ℕ, zero, suc, _+_, _-_, _*_, _≤_, _<_}
 use native.Mathlib.Nat.{add-zero, mul-le-mul-right}
 use mathlib.Core.Path.{_≡_, refl, sym, ap, _∙_}
 use mathlib.Core.Bool.{Bool, true, false}
-use mathlib.Core.List.{List, [], _∷_, _++_, append-nil}
+use mathlib.Core.List.{List, [], _∷_, _++_}
 use native.Mathlib.Omega.{arith}
 use lib.ListN.{length, getD, set, take, drop, replicate, length-append, length-set, length-take, length-drop, length-replicate}
 use Rattle.laws.specs.Put.{put, length-put, drop-step}
 use Rattle.counts.specs.declared.Counts.{Counts}
 use Rattle.counts.specs.Counts.{Small, opened}
-use Rattle.stores.specs.Parts.{later, spot, place, openCell, absentCells, rowCells, kept, Narrow, CellRoom, RowRoom}
+use Rattle.stores.specs.Parts.{later, spot, place, openCell, absentCells, rowCells, kept, Narrow}
 
 -- ---- a character's bytes
 take-next : (x : List ℕ) (at n : ℕ) → at < length x → take (suc n) (drop at x) ≡ getD x at 0 ∷ take n (drop (at + 1) x)
@@ -64,32 +64,45 @@ unfolding later
 later-some zero v h = absurd (h refl)
 later-some (suc n) v h = refl
 
--- ---- a value n times, i of them stored in d of what d₀ was
-pub record Repeating (d₀ d : List ℕ) (at v n i : ℕ) : Type 0 where
-  pub within : i ≤ n
-  pub long : length d ≡ length d₀
-  pub same : put d₀ at (replicate n v) ≡ put d (at + i) (replicate (n - i) v)
+-- ---- a value at each place from m up to n, those before i stored in d of what d₀ was
+record Repeating (d₀ d : List ℕ) (m n v i : ℕ) : Type 0 where
+  same : put d₀ m (replicate (n - m) v) ≡ put d i (replicate (n - i) v)
 
-pub repeat-start : (d : List ℕ) (at v n : ℕ) → Repeating d d at v n 0
-repeat-start d at v n =
-    let e : at + 0 ≡ at = omega arith in
-    let f : n - 0 ≡ n = omega arith in
-    record { within = omega arith; long = refl; same = rw (e, f) }
-
-pub repeat-more : (d₀ d : List ℕ) (at v n i : ℕ) → i < n → Repeating d₀ d at v n i → Repeating d₀ (set d (at + i) v) at v n (i + 1)
-repeat-more d₀ d at v n i h r =
+repeat-more : (d₀ d : List ℕ) (m n v i : ℕ) → i < n → Repeating d₀ d m n v i → Repeating d₀ (set d i v) m n v (i + 1)
+repeat-more d₀ d m n v i h r =
     let e : n - i ≡ suc (n - (i + 1)) = omega arith in
-    let f : at + i + 1 ≡ at + (i + 1) = omega arith in
-    record {
-      within = omega arith;
-      long = length-set d (at + i) v ∙ r .long;
-      same = r .same ∙ ap (λ (m : ℕ). put d (at + i) (replicate m v)) e ∙ ap (λ (j : ℕ). put (set d (at + i) v) j (replicate (n - (i + 1)) v)) f;
-    }
+    record { same = r .same ∙ ap (λ (j : ℕ). put d i (replicate j v)) e }
 
-pub repeat-done : (d₀ d : List ℕ) (at v n i : ℕ) → n ≤ i → Repeating d₀ d at v n i → d ≡ put d₀ at (replicate n v)
-repeat-done d₀ d at v n i h r =
+repeat-done : (d₀ d : List ℕ) (m n v i : ℕ) → n ≤ i → Repeating d₀ d m n v i → d ≡ put d₀ m (replicate (n - m) v)
+repeat-done d₀ d m n v i h r =
     let e : n - i ≡ 0 = omega arith in
     sym (rw e at (r .same))
+
+-- absent cells from m up to n, those before i stored in both lists; g is where they start
+pub record Absenting (b₀ l₀ b l : List ℕ) (g m n i : ℕ) : Type 0 where
+  starts : Repeating b₀ b m n g i
+  lengths : Repeating l₀ l m n 0 i
+  pub starts-long : length b ≡ length b₀
+  pub lengths-long : length l ≡ length l₀
+
+pub absent-start : (b l : List ℕ) (g m n : ℕ) → Absenting b l b l g m n m
+absent-start b l g m n = record { starts = record { same = refl }; lengths = record { same = refl }; starts-long = refl; lengths-long = refl }
+
+module _ (b₀ l₀ b l : List ℕ) (g m n i : ℕ) (r : Absenting b₀ l₀ b l g m n i) where
+  pub absent-more : i < n → Absenting b₀ l₀ (set b i g) (set l i 0) g m n (i + 1)
+  absent-more h =
+      record {
+        starts = repeat-more b₀ b m n g i h (r .starts);
+        lengths = repeat-more l₀ l m n 0 i h (r .lengths);
+        starts-long = length-set b i g ∙ r .starts-long;
+        lengths-long = length-set l i 0 ∙ r .lengths-long;
+      }
+
+  pub absent-starts : n ≤ i → b ≡ put b₀ m (replicate (n - m) g)
+  absent-starts h = repeat-done b₀ b m n g i h (r .starts)
+
+  pub absent-lengths : n ≤ i → l ≡ put l₀ m (replicate (n - m) 0)
+  absent-lengths h = repeat-done l₀ l m n 0 i h (r .lengths)
 
 -- ---- room for the stores; the premises are as their places have them
 pub later-fits : (n i m v : ℕ) → (n ≡ 0 → ⊥) → i + length (later n v) ≤ m → i < m
@@ -122,6 +135,11 @@ unfolding spot
 spot-some c zero t h = absurd (h refl)
 spot-some c (suc n) t h = let e : suc n - 1 ≡ n = omega arith in rw e
 
+-- the cells of one more character
+rows-next : (n c : ℕ) → (n ≡ 0 → ⊥) → n * c ≡ (n - 1) * c + c
+rows-next zero c h = absurd (h refl)
+rows-next (suc n) c h = let e : suc n - 1 ≡ n = omega arith in rw e (omega arith)
+
 -- cells are as many as a number can be
 module _ (c : ℕ) (k : Counts) (s : Small k 4096) (w : Narrow c k) where
   cells-few : (k .n - 1) * c ≤ 16777216
@@ -130,58 +148,53 @@ module _ (c : ℕ) (k : Counts) (s : Small k 4096) (w : Narrow c k) where
   pub rows-small : (k .n - 1) * c < 18446744073709551616
   rows-small = omega (arith, cells-few)
 
+  pub all-small : (k .n ≡ 0 → ⊥) → k .n * c < 18446744073709551616
+  all-small h = omega (arith, cells-few, rows-next (k .n) c h, w .few)
+
   pub spot-small : (k .n - 1) * c + k .tags < 18446744073709551616
   spot-small = omega (arith, cells-few, s .tags-small)
 
-  pub spot-few : spot c (k .n) (k .tags) ≤ 16781312
-  spot-few = on (k .n) refl
-    where
-      on : (n : ℕ) → k .n ≡ n → spot c n (k .tags) ≤ 16781312
-      on zero e = rw (← (spot-none c zero (k .tags) refl)) (omega arith)
-      on (suc n) e = rw (← (spot-some c (suc n) (k .tags) (λ z. absurd (omega arith)))) (omega (arith, rw e at cells-few, s .tags-small))
+-- the open tag's cell is stored where there is one
+pub cell-fits : (t : Bool) (i m : ℕ) → t ≡ true → i + opened t ≤ m → i < m
+unfolding opened
+cell-fits t i m e h = omega (arith, rw e at h)
+
+pub cell-open : (d : List ℕ) (t : Bool) (i v r : ℕ) → t ≡ true → r ≡ v → set d i r ≡ put d i (kept t (v ∷ []))
+unfolding kept
+cell-open d t i v r e q = rw (e, q)
+
+pub next-open : (t : Bool) (i : ℕ) → t ≡ true → i + 1 ≡ i + opened t
+unfolding opened
+next-open t i e = rw e
+
+pub next-closed : (t : Bool) (i : ℕ) → t ≡ false → i ≡ i + opened t
+unfolding opened
+next-closed t i e = rw e (omega arith)
+
+length-kept : (t : Bool) (v : ℕ) → length (kept t (v ∷ [])) ≡ opened t
+unfolding kept opened
+length-kept true v = refl
+length-kept false v = refl
 
 module _ (n : ℕ) (o : Bool) (v : ℕ) where
-  pub open-before : n ≡ 0 → openCell n o v ≡ []
-  unfolding openCell
-  open-before e = rw e
-
-  pub open-closed : o ≡ false → openCell n o v ≡ []
-  unfolding openCell
-  open-closed e = on n
+  open-kept : (n ≡ 0 → ⊥) → openCell n o v ≡ kept o (v ∷ [])
+  unfolding openCell kept
+  open-kept h = on n o h
     where
-      on : (m : ℕ) → openCell m o v ≡ []
-      on zero = refl
-      on (suc m) = rw e
-
-  pub open-one : (n ≡ 0 → ⊥) → o ≡ true → openCell n o v ≡ v ∷ []
-  unfolding openCell
-  open-one h e = on n h
-    where
-      on : (m : ℕ) → (m ≡ 0 → ⊥) → openCell m o v ≡ v ∷ []
-      on zero h = absurd (h refl)
-      on (suc m) h = rw e
-
-  pub length-open : (n ≡ 0 → ⊥) → length (openCell n o v) ≡ opened o
-  unfolding openCell opened
-  length-open h = on n o h
-    where
-      on : (m : ℕ) (b : Bool) → (m ≡ 0 → ⊥) → length (openCell m b v) ≡ opened b
+      on : (m : ℕ) (b : Bool) → (m ≡ 0 → ⊥) → openCell m b v ≡ kept b (v ∷ [])
       on zero b h = absurd (h refl)
       on (suc m) true h = refl
       on (suc m) false h = refl
 
-  -- what is left in place of it
   pub none-stored : (d : List ℕ) (i : ℕ) → n ≡ 0 → d ≡ put d i (openCell n o v)
-  none-stored d i e = rw (open-before e)
+  unfolding openCell
+  none-stored d i e = rw e
 
-  pub closed-stored : (d : List ℕ) (i : ℕ) → o ≡ false → d ≡ put d i (openCell n o v)
-  closed-stored d i e = rw (open-closed e)
+  pub open-fits : (i p m : ℕ) → p ≡ i → (n ≡ 0 → ⊥) → i + length (openCell n o v) ≤ m → p + opened o ≤ m
+  open-fits i p m q h l = omega (arith, ap length (open-kept h), length-kept o v)
 
-  pub open-stored : (d : List ℕ) (i j : ℕ) → j ≡ i → (n ≡ 0 → ⊥) → o ≡ true → set d j v ≡ put d i (openCell n o v)
-  open-stored d i j q h e = rw (open-one h e, q)
-
-  pub open-fits : (i j m : ℕ) → j ≡ i → (n ≡ 0 → ⊥) → o ≡ true → i + length (openCell n o v) ≤ m → j < m
-  open-fits i j m q h e l = omega (arith, ap length (open-one h e))
+  pub open-stored : (d e : List ℕ) (i p : ℕ) → p ≡ i → (n ≡ 0 → ⊥) → e ≡ put d p (kept o (v ∷ [])) → e ≡ put d i (openCell n o v)
+  open-stored d e i p q h w = rw (open-kept h, ← q) w
 
 pub put-append : (xs ys d : List ℕ) (i : ℕ) → put d i (xs ++ ys) ≡ put (put d i xs) (i + length xs) ys
 put-append [] ys d i = rw add-zero
@@ -190,66 +203,52 @@ put-append (x ∷ xs) ys d i = put-append xs ys (set d i x) (i + 1) ∙ rw same
     same : i + 1 + length xs ≡ i + suc (length xs)
     same = omega arith
 
-module _ (c v z : ℕ) (k : Counts) where
-  pub row-first : (i m : ℕ) → i + length (rowCells c v z k) ≤ m → i + length (openCell (k .n) (k .tag) v) ≤ m
-  unfolding rowCells
-  row-first i m h = omega (arith, length-append (openCell (k .n) (k .tag) v) (absentCells (k .n) (c - (k .tags + opened (k .tag))) z))
+-- the rest of a row ends where the cells of all characters that were read end
+module _ (c v z : ℕ) (k : Counts) (h : k .n ≡ 0 → ⊥) (w : Narrow c k) where
+  row-end : k .n * c ≡ place c k + opened (k .tag) + (c - (k .tags + opened (k .tag)))
+  row-end = omega (arith, spot-some c (k .n) (k .tags) h, rows-next (k .n) c h, w .fits)
 
-  pub row-none : (d e : List ℕ) (i : ℕ) → k .n ≡ 0 → e ≡ put d i (openCell (k .n) (k .tag) v) → e ≡ put d i (rowCells c v z k)
+  row-parts : rowCells c v z k ≡ kept (k .tag) (v ∷ []) ++ replicate (c - (k .tags + opened (k .tag))) z
   unfolding rowCells absentCells
-  row-none d e i h q = rw (h, append-nil) (rw h at q)
+  row-parts = on (k .n) h
+    where
+      on : (n : ℕ) → (n ≡ 0 → ⊥) → openCell n (k .tag) v ++ absentCells n (c - (k .tags + opened (k .tag))) z ≡ kept (k .tag) (v ∷ []) ++ replicate (c - (k .tags + opened (k .tag))) z
+      on zero h = absurd (h refl)
+      on (suc n) h = rw (open-kept (suc n) (k .tag) v h)
 
-  absent-some : (n j : ℕ) → (n ≡ 0 → ⊥) → absentCells n j z ≡ replicate j z
-  unfolding absentCells
-  absent-some zero j h = absurd (h refl)
-  absent-some (suc n) j h = refl
+  row-long : length (rowCells c v z k) ≡ opened (k .tag) + (c - (k .tags + opened (k .tag)))
+  row-long = ap length row-parts ∙ rw (length-append, length-replicate, length-kept)
 
-  pub row-rest : (d e : List ℕ) (i p o : ℕ) → p ≡ i → (k .n ≡ 0 → ⊥) → o ≡ opened (k .tag) → e ≡ put d i (openCell (k .n) (k .tag) v) → i + length (rowCells c v z k) ≤ length d
-      → p + o + (c - (k .tags + o)) ≤ length e
-  unfolding rowCells
-  row-rest d e i p o u h q w l =
-      omega (
-        arith,
-        rw (absent-some (k .n) (c - (k .tags + opened (k .tag))) h, length-append, length-replicate, length-open (k .n) (k .tag) v h) at l,
-        ap (λ (b : ℕ). c - (k .tags + b)) q,
-        ap length w,
-        length-put (openCell (k .n) (k .tag) v) d i,
-      )
+  pub row-first : (p m : ℕ) → p ≡ place c k → place c k + length (rowCells c v z k) ≤ m → p + opened (k .tag) ≤ m
+  row-first p m q l = omega (arith, row-long)
 
-  pub row-stored : (d e f : List ℕ) (i p o : ℕ) → p ≡ i → (k .n ≡ 0 → ⊥) → o ≡ opened (k .tag) → e ≡ put d i (openCell (k .n) (k .tag) v) → f ≡ put e (p + o) (replicate (c - (k .tags + o)) z)
-      → f ≡ put d i (rowCells c v z k)
-  unfolding rowCells
-  row-stored d e f i p o u h q w r =
-      r ∙ rw (u, q, w) (sym (put-append (openCell (k .n) (k .tag) v) (absentCells (k .n) (c - (k .tags + opened (k .tag))) z) d i
-      ∙ rw (absent-some (k .n) (c - (k .tags + opened (k .tag))) h, length-open (k .n) (k .tag) v h)))
+  pub row-rest : (p : ℕ) (d e : List ℕ) → e ≡ put d p (kept (k .tag) (v ∷ [])) → place c k + length (rowCells c v z k) ≤ length d → k .n * c ≤ length e
+  row-rest p d e u l = omega (arith, row-long, row-end, ap length u, length-put (kept (k .tag) (v ∷ [])) d p)
 
--- ---- both lists of cells; r is where the open tag starts
-module _ (c : ℕ) (k : Counts) (b l : List ℕ) (r : ℕ) (q : r ≡ k .g - k .long) where
-  pub start-room : CellRoom c k b l → place c k + length (openCell (k .n) (k .tag) r) ≤ length b
-  start-room h = rw q (h .starts-room)
+  pub row-stored : (p r : ℕ) (d e f : List ℕ) → p ≡ place c k → r ≡ p + opened (k .tag) → e ≡ put d p (kept (k .tag) (v ∷ [])) → f ≡ put e r (replicate (k .n * c - r) z)
+      → f ≡ put d (place c k) (rowCells c v z k)
+  row-stored p r d e f q s u x = apart ∙ sym (put-append (kept (k .tag) (v ∷ [])) rest d (place c k)) ∙ ap (put d (place c k)) (sym row-parts)
+    where
+      rest : List ℕ
+      rest = replicate (c - (k .tags + opened (k .tag))) z
 
-  pub start-stored : (b′ : List ℕ) → b′ ≡ put b (place c k) (openCell (k .n) (k .tag) r) → b′ ≡ put b (place c k) (openCell (k .n) (k .tag) (k .g - k .long))
-  start-stored b′ e = rw q at e
+      left : k .n * c - r ≡ c - (k .tags + opened (k .tag))
+      left = omega (arith, row-end)
 
-  pub row-start-room : RowRoom c k b l → place c k + length (rowCells c r (k .g) k) ≤ length b
-  row-start-room h = rw q (h .starts-room)
+      apart : f ≡ put (put d (place c k) (kept (k .tag) (v ∷ []))) (place c k + length (kept (k .tag) (v ∷ []))) rest
+      apart = rw (x, left, s, u, q, length-kept)
 
-  pub row-start-stored : (b′ : List ℕ) → b′ ≡ put b (place c k) (rowCells c r (k .g) k) → b′ ≡ put b (place c k) (rowCells c (k .g - k .long) (k .g) k)
-  row-start-stored b′ e = rw q at e
+-- ---- a row that has no cells: there are no columns, or no character was read
+module _ (c v z : ℕ) (k : Counts) (d : List ℕ) (i : ℕ) where
+  pub bare-stored : c ≡ 0 → Narrow c k → d ≡ put d i (rowCells c v z k)
+  unfolding rowCells openCell absentCells opened
+  bare-stored e h = ap (put d i) (sym (on (k .tag) (k .n) (omega (arith, h .fits))))
+    where
+      on : (t : Bool) (n : ℕ) → opened t ≤ 0 → openCell n t v ++ absentCells n (c - (k .tags + opened t)) z ≡ []
+      on t zero l = refl
+      on true (suc n) l = absurd (omega arith)
+      on false (suc n) l = let f : c - (k .tags + 0) ≡ 0 = omega arith in rw f
 
--- ---- a row where there are no columns
-row-bare : (c v z : ℕ) (k : Counts) → c ≡ 0 → Narrow c k → rowCells c v z k ≡ []
-unfolding rowCells openCell absentCells opened
-row-bare c v z k e h = on (k .tag) (k .n) (omega (arith, h .fits))
-  where
-    on : (t : Bool) (n : ℕ) → opened t ≤ 0 → openCell n t v ++ absentCells n (c - (k .tags + opened t)) z ≡ []
-    on t zero l = refl
-    on true (suc n) l = absurd (omega arith)
-    on false (suc n) l = let f : c - (k .tags + 0) ≡ 0 = omega arith in rw f
-
-module _ (c : ℕ) (k : Counts) (b l : List ℕ) (e : c ≡ 0) (h : RowRoom c k b l) where
-  pub bare-starts : b ≡ put b (place c k) (rowCells c (k .g - k .long) (k .g) k)
-  bare-starts = rw (row-bare c (k .g - k .long) (k .g) k e (h .narrow))
-
-  pub bare-lengths : l ≡ put l (place c k) (rowCells c (k .long) 0 k)
-  bare-lengths = rw (row-bare c (k .long) 0 k e (h .narrow))
+  pub first-stored : k .n ≡ 0 → d ≡ put d i (rowCells c v z k)
+  unfolding rowCells openCell absentCells
+  first-stored e = rw e

@@ -4,7 +4,7 @@ use reader::Act;
 use reader::Mark;
 use reader::Stepped;
 ghost use mathlib.Core.Path.{_≡_};
-ghost use mathlib.Core.List.{_∷_};
+ghost use mathlib.Core.List.{[], _∷_};
 ghost use Prim.Native.Nat.{_+_, _-_, _≤_, _<_};
 ghost use lib.ListN.{length, take, drop, replicate};
 ghost use Rattle.laws.specs.Put.{put};
@@ -12,7 +12,7 @@ ghost use Rattle.types.specs.Blocks.{Right};
 ghost use Rattle.sentence.specs.Sentence.{code};
 ghost use Rattle.sheet.specs.Layout.{buffers};
 ghost use Rattle.reader.specs.Flags.{markOf, actOf};
-ghost use Rattle.counts.specs.Counts.{Small};
+ghost use Rattle.counts.specs.Counts.{Small, opened};
 ghost use Rattle.stores.specs.Parts.{later, place, openCell, rowCells, kept, Narrow, CellRoom, RowRoom, Stored, Turning, Finishing, Finished};
 
 // A character's bytes, from one place to another.
@@ -78,46 +78,6 @@ fn place(k: Counts, columns: usize) -> usize
     (n - 1) * columns + k.tags as usize
 }
 
-// The open tag's cell, in one of the lists of cells.
-fn end_cell(k: Counts, columns: usize, value: u16, cells: &mut [u16])
-    requires { ⌜ Small k 4096 × Narrow columns k × (place columns k + length (openCell (k .n) (k .tag) value) ≤ length (now cells)) ⌝ }
-    ensures { λ _. ⌜ now (cells .exit) ≡ put (now (cells .entry)) (place columns k) (openCell (k .n) (k .tag) value) ⌝ }
-{
-    let at = place(k, columns);
-    if k.n == 0 {
-        return;
-    }
-    if k.tag {
-        cells[at] = value;
-    }
-}
-
-// The same value some times.
-fn repeat(value: u16, times: usize, cells: &mut [u16], at: usize)
-    requires { ⌜ at + times ≤ length (now cells) ⌝ }
-    ensures { λ _. ⌜ now (cells .exit) ≡ put (now (cells .entry)) at (replicate times value) ⌝ }
-{
-    let mut i = 0;
-    while i < times {
-        cells[at + i] = value;
-        i += 1;
-    }
-}
-
-// The rest of the row of the character before, in one of the lists of cells: the open tag's cell, and absent ones.
-fn end_cells(k: Counts, columns: usize, value: u16, absent: u16, cells: &mut [u16])
-    requires { ⌜ Small k 4096 × Narrow columns k × (place columns k + length (rowCells columns value absent k) ≤ length (now cells)) ⌝ }
-    ensures { λ _. ⌜ now (cells .exit) ≡ put (now (cells .entry)) (place columns k) (rowCells columns value absent k) ⌝ }
-{
-    end_cell(k, columns, value, cells);
-    if k.n == 0 {
-        return;
-    }
-    let open = counts::given::opened(k.tag) as usize;
-    let at = place(k, columns) + open;
-    repeat(absent, columns - (k.tags as usize + open), cells, at);
-}
-
 // Where the open tag starts among the tag bytes.
 fn start(k: Counts) -> u16
     requires { ⌜ Small k 4096 ⌝ }
@@ -126,16 +86,44 @@ fn start(k: Counts) -> u16
     (k.g - k.long as usize) as u16
 }
 
+// The open tag's cell, in both lists of cells; where the next one goes.
+fn end_cell(k: Counts, at: usize, cell_starts: &mut [u16], cell_lengths: &mut [u16]) -> usize
+    requires { ⌜ Small k 4096 × (at + opened (k .tag) ≤ length (now «cell_starts»)) × (at + opened (k .tag) ≤ length (now «cell_lengths»)) ⌝ }
+    ensures { λ r. ⌜ (r ≡ at + opened (k .tag)) × (now («cell_starts» .exit) ≡ put (now («cell_starts» .entry)) at (kept (k .tag) ((k .g - k .long) ∷ []))) × (now («cell_lengths» .exit) ≡ put (now («cell_lengths» .entry)) at (kept (k .tag) (k .long ∷ []))) ⌝ }
+{
+    if k.tag {
+        cell_starts[at] = start(k);
+        cell_lengths[at] = k.long;
+        return at + 1;
+    }
+    at
+}
+
 // The open tag ends.
 fn end_tag(k: Counts, columns: usize, cell_starts: &mut [u16], cell_lengths: &mut [u16])
     requires { ⌜ CellRoom columns k (now «cell_starts») (now «cell_lengths») ⌝ }
     ensures { λ _. ⌜ (now («cell_starts» .exit) ≡ put (now («cell_starts» .entry)) (place columns k) (openCell (k .n) (k .tag) (k .g - k .long))) × (now («cell_lengths» .exit) ≡ put (now («cell_lengths» .entry)) (place columns k) (openCell (k .n) (k .tag) (k .long))) ⌝ }
 {
-    end_cell(k, columns, start(k), cell_starts);
-    end_cell(k, columns, k.long, cell_lengths);
+    if k.n == 0 {
+        return;
+    }
+    end_cell(k, place(k, columns), cell_starts, cell_lengths);
 }
 
-// The row of the character before ends.
+// Absent cells from one place up to another, in both lists of cells.
+fn absent(start: u16, from: usize, to: usize, cell_starts: &mut [u16], cell_lengths: &mut [u16])
+    requires { ⌜ (to ≤ length (now «cell_starts»)) × (to ≤ length (now «cell_lengths»)) ⌝ }
+    ensures { λ _. ⌜ (now («cell_starts» .exit) ≡ put (now («cell_starts» .entry)) from (replicate (to - from) start)) × (now («cell_lengths» .exit) ≡ put (now («cell_lengths» .entry)) from (replicate (to - from) 0)) ⌝ }
+{
+    let mut i = from;
+    while i < to {
+        cell_starts[i] = start;
+        cell_lengths[i] = 0;
+        i += 1;
+    }
+}
+
+// The row of the character before ends: the open tag's cell, and absent ones.
 fn end_row(k: Counts, columns: usize, cell_starts: &mut [u16], cell_lengths: &mut [u16])
     requires { ⌜ RowRoom columns k (now «cell_starts») (now «cell_lengths») ⌝ }
     ensures { λ _. ⌜ (now («cell_starts» .exit) ≡ put (now («cell_starts» .entry)) (place columns k) (rowCells columns (k .g - k .long) (k .g) k)) × (now («cell_lengths» .exit) ≡ put (now («cell_lengths» .entry)) (place columns k) (rowCells columns (k .long) 0 k)) ⌝ }
@@ -143,8 +131,12 @@ fn end_row(k: Counts, columns: usize, cell_starts: &mut [u16], cell_lengths: &mu
     if columns == 0 {
         return;
     }
-    end_cells(k, columns, start(k), k.g as u16, cell_starts);
-    end_cells(k, columns, k.long, 0, cell_lengths);
+    let n = k.n;
+    if n == 0 {
+        return;
+    }
+    let at = end_cell(k, place(k, columns), cell_starts, cell_lengths);
+    absent(k.g as u16, at, n * columns, cell_starts, cell_lengths);
 }
 
 // A character of the open tag.
