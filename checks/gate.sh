@@ -183,7 +183,7 @@ without=rustc installs=yes ends 'the host without a compiler' 1 'nothing was run
 ends 'the host without the sources' 1 $'VAPORETTO_SRC to the folder vaporetto/src of a checkout)\n0 passed, 1 failed' VAPORETTO_SRC="$work/none" bash "$here/host/whole.sh"
 
 # The words of the host's scripts, and what they cannot do: status 2, and a line that says so.
-for name in build check-test compare-test count example interrupted keys link loader record whole withhold; do
+for name in build check-test compare-test count example interrupted keys link loader native record whole withhold; do
     ends "$name with an unknown word" 2 "host/$name.sh: there is no '--more'" bash "$here/host/$name.sh" --more
     ends "the help of $name" 0 'Status 0: ' bash "$here/host/$name.sh" --help
 done
@@ -232,9 +232,18 @@ ends 'keys of a folder' 2 "'$work' is a folder: name a file of notes" "$@" raw "
 set -- bash "$here/host/count.sh"
 without=valgrind installs=yes ends 'count without valgrind' 2 "this is missing: valgrind (install Debian's package valgrind; apt-get update failed" "$@"
 without=valgrind ends 'count without valgrind, and another user' 2 'only root' USER_ID=1000 "$@"
-ends 'count on an Arm machine' 2 'this needs an x86-64 processor, and this is aarch64' MACHINE=aarch64 "$@"
+installs=yes ends 'count on an Arm machine without the packages' 2 'this is missing: a compiler and an emulator for x86-64' MACHINE=aarch64 "$@"
+ends 'count on another machine' 2 'this is riscv64' MACHINE=riscv64 "$@"
 ends 'count with a folder that has no library' 2 "there is no libexports.a or libconvert.a in $work/none" "$@" "$work/none"
 ends 'count with a word too many' 2 "there is no 'more'" "$@" "$work/none" more
+set -- bash "$here/host/native.sh"
+ends 'native on an x86-64 machine' 2 'this is for an Arm machine, and this is x86_64: on x86-64 host/both.sh bench has no emulator' "$@"
+without=rt ends 'native without rt' 2 "this is missing: rt, the kit's command" MACHINE=aarch64 "$@"
+ends 'native without the sources' 2 'VAPORETTO_SRC' MACHINE=aarch64 VAPORETTO_SRC="$work/none" "$@"
+without=rustc installs=yes ends 'native without a compiler' 2 'this is missing: rustc 1.83' MACHINE=aarch64 "$@"
+rm -rf "$here/target"
+ends 'native where rt fails' 2 $'a word on staticlib\nhost/native.sh: \'rt staticlib exports\' failed' MACHINE=aarch64 RT_EXIT=1 "$@"
+set -- bash "$here/host/count.sh"
 stand_in "$work/bin/cc" <<<'exit 0'
 ends 'count with a program that cannot be run' 2 'read, notes P: the program failed with status 127' "$@"
 ends 'withhold where a copy is another' 1 'a word of python3' bash "$here/host/withhold.sh"

@@ -1,20 +1,20 @@
 #!/usr/bin/env bash
-# Counts how many instructions the port's calls execute on the lines of host/samples/counted.txt, by valgrind, and prints a table.
+# Counts how many instructions the port's calls execute on the lines of host/samples/counted.txt, and prints a table.
 set -eu
 . "$(dirname "${BASH_SOURCE[0]}")/tools.sh"
 usage='usage: host/count.sh [ARCHIVES]
 Builds host/count.c with the static libraries of crates/exports and crates/convert, and prints a table in Markdown: how many instructions each call
 executes on the ten lines of each kind in host/samples/counted.txt, one call for each line.
 ARCHIVES: a folder with another libexports.a, another libconvert.a or both, which are counted instead; a call that they lack has no row.
-It needs valgrind and an x86-64 processor.
+On an x86-64 machine valgrind counts, on an Arm one the emulator, by host/inside.c.
 Status 0: the table is printed; 2: it could not be counted.'
 archives=
 [[ ${1:--} = -* ]] || { archives=$1 && shift; }
 no_words "$usage" "$@"
-[ "$(uname -m)" = x86_64 ] || give_up "this needs an x86-64 processor, and this is $(uname -m): the port's libraries are for x86-64, and valgrind runs only programs for the processor at hand"
-command -v valgrind >/dev/null || { packages update && packages install valgrind; } || give_up_without "$(no_valgrind)"
+[ "$(uname -m)" != x86_64 ] || command -v valgrind >/dev/null || { packages update && packages install valgrind; } || give_up_without "$(no_valgrind)"
 [ -n "$archives" ] || command -v rt >/dev/null || give_up_without "$(no_rt)"
 find_x86 || give_up_without "$(no_x86)"
+[ "$(uname -m)" = x86_64 ] || command -v cc >/dev/null || { packages update && packages install gcc libc6-dev; } || give_up_without "$(no_own_c)"
 out=$out/count
 building "$out"
 if [ -z "$archives" ]; then
@@ -28,8 +28,21 @@ done
 [ ${#linked[@]} != 0 ] || give_up "there is no libexports.a or libconvert.a in $archives"
 
 # All addresses are found before the first call, so that no call has the search for one in it.
-"${cc[@]}" -std=c11 -Wall -Wextra -Werror -O -o "$out/counted" "$here/count.c" -Wl,-z,now -Wl,--whole-archive "${linked[@]}" -Wl,--no-whole-archive ||
+"${cc[@]}" -std=c11 -Wall -Wextra -Werror -O -fno-inline -o "$out/counted" "$here/count.c" -Wl,-z,now -Wl,--whole-archive "${linked[@]}" -Wl,--no-whole-archive ||
     give_up 'the compiler of C failed: its words are above'
+[ "$(uname -m)" = x86_64 ] || cc -std=c11 -D_GNU_SOURCE -Wall -Wextra -Werror -O -shared -fPIC -o "$out/inside.so" "$here/inside.c" ||
+    give_up 'the compiler of C failed: its words are above'
+
+# Prints how many instructions a function executes while the program runs: count_in FUNCTION WORDS.. What the program prints goes to $out/again.
+count_in() {
+    if [ "$(uname -m)" = x86_64 ]; then
+        valgrind --tool=callgrind --toggle-collect="$1" --callgrind-out-file="$out/callgrind.out" --log-file="$out/said" "$out/counted" "${@:2}" >"$out/again" &&
+            sed -n 's/^summary: //p' "$out/callgrind.out"
+    else
+        "${run[@]}" -plugin "$out/inside.so,call=$1,by=main:answer:read_line:write_line:withhold:write_key" "$out/counted" "${@:2}" >"$out/again" 2>"$out/said" &&
+            cat "$out/said"
+    fi
+}
 
 # A row of the table, or none where the libraries lack the call: row NAME CALL FUNCTION [just], CALL as count.c has it; `just`: with just the room.
 row() {
@@ -37,15 +50,13 @@ row() {
     for kind in 'notes P' 'plain P' 'notes T' 'plain T'; do
         sed -n "s/^$kind\t//p" "$here/samples/counted.txt" >"$out/lines"
         status=0
-        "$out/counted" "$2" "${kind: -1}" <"$out/lines" >"$out/answers" || status=$?
+        "${run[@]}" "$out/counted" "$2" "${kind: -1}" <"$out/lines" >"$out/answers" || status=$?
         [ "$status" != 3 ] || return 0
         [ "$status" = 0 ] || give_up "$1, $kind: the program failed with status $status"
         rooms=()
         [ $# = 3 ] || mapfile -t rooms <"$out/answers"
-        valgrind --tool=callgrind --toggle-collect="$3" --callgrind-out-file="$out/callgrind.out" --log-file="$out/valgrind.log" \
-            "$out/counted" "$2" "${kind: -1}" "${rooms[@]}" <"$out/lines" >"$out/again" || { cat "$out/valgrind.log" >&2 && give_up "$1, $kind: valgrind failed: its words are above"; }
-        counted=$(sed -n 's/^summary: //p' "$out/callgrind.out")
-        cmp "$out/answers" "$out/again" >&2 && [ "${counted:-0}" != 0 ] || give_up "$1, $kind: valgrind counted nothing, or another run"
+        counted=$(count_in "$3" "$2" "${kind: -1}" "${rooms[@]}" <"$out/lines") || { cat "$out/said" >&2 && give_up "$1, $kind: counting failed: its words are above"; }
+        cmp "$out/answers" "$out/again" >&2 && [[ $counted =~ ^[1-9][0-9]*$ ]] || give_up "$1, $kind: nothing was counted, or another run"
         cells+=" $(sed ':more; s/\([0-9]\)\([0-9]\{3\}\)\($\|,\)/\1,\2\3/; t more' <<<"$counted") |"
     done
     echo "| $1 |$cells"

@@ -32,6 +32,7 @@ no_src() { echo "the original's sources (no sentence.rs and predictor.rs in $src
 no_python() { echo "python3 (install it${why:+; $why})"; }
 no_valgrind() { echo "valgrind (install Debian's package valgrind${why:+; $why})"; }
 no_rustc() { echo "rustc 1.$needed or later with rustdoc, and cc (install them${why:+; $why})"; }
+no_own_c() { echo "cc, a compiler of C for this machine (install gcc and libc6-dev${why:+; $why})"; }
 no_c() { if [ "$(uname -m)" = x86_64 ]; then echo "cc, a compiler of C (install gcc and libc6-dev${why:+; $why})"; else no_x86; fi; }
 no_x86() {
     case $(uname -m) in
