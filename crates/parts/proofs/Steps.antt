@@ -2,15 +2,14 @@
 use Prim.Native.Nat.{ℕ, zero, suc, _+_, _-_, _≤_, _<_}
 use native.Mathlib.Omega.{arith}
 use mathlib.Core.Path.{_≡_, refl, sym, ap, _∙_}
-use mathlib.Core.Bool.{Bool, true, false, not, _&&_, false≢true, and-assoc, and-true, and-false, and-eq-true-iff}
+use mathlib.Core.Bool.{Bool, true, false, not, _&&_, and-assoc, and-true, and-false}
 use mathlib.Core.List.{List, [], _∷_, _++_}
-use borrow.Author.Tests.{eq-eqb, eqb-true, ne-eqb, eqb-false, le-leb, lt-leb, not-true, not-false}
+use borrow.Author.Tests.{eq-eqb, eqb-true, ne-eqb, eqb-false, not-true, not-false}
 use lib.Dec.{eqb, leb, eqb·zero-suc, eqb·suc-zero}
 use lib.ListN.{length, take, drop, getD, length-take, length-drop, replicate}
 use lib.Seq.{drop-drop}
 use Rattle.laws.specs.If.{if_then_else_}
 use Rattle.laws.specs.Put.{drop-step, drop-none}
-use Rattle.laws.proofs.Facts.{reads, untrue}
 use Rattle.utf8.specs.declared.Decoded.{Decoded}
 use Rattle.utf8.specs.declared.Decoded.the-variants.{Char, Bad, End}
 use Rattle.utf8.specs.Utf8.{encode, decodeAt, walk, wholes, values, scalars, validPrefix, width}
@@ -18,17 +17,11 @@ use Rattle.utf8.proofs.Codec.{one-decoded, encode-decode, width-small, length-e
 use Rattle.utf8.proofs.Laws.{decode-in, chars-char, chars-bad, chars-end}
 use Rattle.types.specs.TypeOf.{typeOf}
 use Rattle.sentence.specs.Sentence.{types, starts, numbers}
-use Rattle.parts.specs.Parts.{same, zeros, noNul, isPlain, isChar, CharFits, isText, Places, areMarks, isCell, areCells}
+use Rattle.parts.specs.Parts.{same, zeros, noNul, isPlain, isChar, CharFits, isText, Places, areMarks}
 
 -- ---- a test of the whole that is one of what is left
 pub record Left (whole rest : Bool) : Type 0 where
   pub is : whole ≡ rest
-
-pub left-go : (w x a y : Bool) → Left w x → x ≡ (a && y) → a ≡ true → Left w y
-left-go w x a y l e t = record { is = l .is ∙ e ∙ rw t }
-
-pub left-no : (w x a y : Bool) → Left w x → x ≡ (a && y) → a ≡ false → false ≡ w
-left-no w x a y l e t = sym (l .is ∙ e ∙ rw t)
 
 -- tests that are gathered, and what is left
 pub left-and : (w o x a y : Bool) → Left w (o && x) → x ≡ (a && y) → Left w ((o && a) && y)
@@ -36,9 +29,6 @@ left-and w o x a y l e = record { is = l .is ∙ rw (e, and-assoc) }
 
 pub left-all : (w o x : Bool) → Left w (o && x) → x ≡ true → o ≡ w
 left-all w o x l e = sym (l .is ∙ rw (e, and-true))
-
-pub left-is : (w x y : Bool) → Left w x → x ≡ y → y ≡ w
-left-is w x y l e = sym (l .is ∙ e)
 
 -- ---- lists
 zeros-take : (m : ℕ) (d : List ℕ) (i : ℕ) → i < length d → zeros (take (suc m) (drop i d)) ≡ (eqb (getD d i 0) 0 && zeros (take m (drop (i + 1) d)))
@@ -101,76 +91,22 @@ pub marks-done : (d : List ℕ) (i : ℕ) → length d ≤ i → areMarks (drop 
 unfolding areMarks
 marks-done d i h = rw (drop-none i d h)
 
--- ---- cells, one after another
-module _ (s : List ℕ) (g b l : ℕ) where
-  pub cell-elsewhere : (b ≡ g → ⊥) → false ≡ isCell s g b l
-  unfolding isCell
-  cell-elsewhere h = rw (ne-eqb b g h)
-
-  pub cell-none : b ≡ g → l ≡ 0 → g ≤ length s → true ≡ isCell s g b l
-  unfolding isCell isPlain walk wholes values noNul
-  cell-none h e k = rw (eq-eqb b g h, e, le-leb (g + 0) (length s) (omega arith))
-
-  pub cell-past : b ≡ g → length s < g + l → false ≡ isCell s g b l
-  unfolding isCell
-  cell-past h k = rw (eq-eqb b g h, lt-leb (g + l) (length s) k)
-
-  pub cell-plain : (r : Bool) → b ≡ g → g + l ≤ length s → r ≡ isPlain (take (g + l - g) (drop g s)) → r ≡ isCell s g b l
-  unfolding isCell
-  cell-plain r h k p = let e : g + l - g ≡ l = omega arith in rw (eq-eqb b g h, le-leb (g + l) (length s) k) (rw e at p)
-
-  cell-within : isCell s g b l ≡ true → g + l ≤ length s
-  unfolding isCell
-  cell-within = simp reads (omega arith)
-
--- i cells are passed, which take g bytes
-pub record Celled (s bs ls : List ℕ) (g i : ℕ) : Type 0 where
-  pub is : areCells s 0 bs ls ≡ areCells s g (drop i bs) (drop i ls)
-  pub same-long : length bs ≡ length ls
-  pub inside : g ≤ length s
-
-pub cells-start : (s bs ls : List ℕ) → length bs ≡ length ls → Celled s bs ls 0 0
-cells-start s bs ls e = record { is = refl; same-long = e; inside = omega arith }
-
-cells-long : (s : List ℕ) (g : ℕ) (bs ls : List ℕ) → areCells s g bs ls ≡ true → length bs ≡ length ls
-unfolding areCells
-cells-long s g [] [] e = refl
-cells-long s g [] (l ∷ ls) e = absurd (false≢true e)
-cells-long s g (b ∷ bs) [] e = absurd (false≢true e)
-cells-long s g (b ∷ bs) (l ∷ ls) e = omega (arith, cells-long s (g + l) bs ls (and-eq-true-iff (isCell s g b l) (areCells s (g + l) bs ls) .0 e .1))
-
-pub cells-uneven : (s bs ls : List ℕ) → (length bs ≡ length ls → ⊥) → false ≡ areCells s 0 bs ls
-cells-uneven s bs ls h = sym (untrue (areCells s 0 bs ls) (λ e. h (cells-long s 0 bs ls e)))
-
-module _ (s bs ls : List ℕ) (g i : ℕ) (h : Celled s bs ls g i) where
-  cells-step : i < length ls → areCells s 0 bs ls ≡ (isCell s g (getD bs i 0) (getD ls i 0) && areCells s (g + getD ls i 0) (drop (i + 1) bs) (drop (i + 1) ls))
-  unfolding areCells
-  cells-step k = h .is ∙ rw (drop-step i bs (omega (arith, h .same-long)), drop-step i ls k)
-
-  pub cells-go : (ok : Bool) → i < length ls → ok ≡ isCell s g (getD bs i 0) (getD ls i 0) → not ok ≡ false → Celled s bs ls (g + getD ls i 0) (i + 1)
-  cells-go ok k e t =
-      let o : isCell s g (getD bs i 0) (getD ls i 0) ≡ true = sym e ∙ not-false ok t in
-      record { is = cells-step k ∙ rw o; same-long = h .same-long; inside = cell-within s g (getD bs i 0) (getD ls i 0) o }
-
-  pub cells-no : (ok : Bool) → i < length ls → ok ≡ isCell s g (getD bs i 0) (getD ls i 0) → not ok ≡ true → false ≡ areCells s 0 bs ls
-  cells-no ok k e t = sym (cells-step k ∙ rw (← e, not-true ok t))
-
-  pub cells-done : length ls ≤ i → eqb g (length s) ≡ areCells s 0 bs ls
-  unfolding areCells
-  cells-done k = sym (h .is ∙ rw (drop-none i bs (omega (arith, h .same-long)), drop-none i ls k))
-
 -- ---- characters
 and-swap : (a b c : Bool) → (a && (b && c)) ≡ (b && (a && c))
 and-swap true b c = refl
 and-swap false true c = refl
 and-swap false false c = refl
 
-eqb-add : (n a b : ℕ) → eqb (n + a) (n + b) ≡ eqb a b
-eqb-add n a b = on (eqb a b) refl
+-- two tests of equality that are true together
+eqb-iff : (a b c d : ℕ) → (a ≡ b → c ≡ d) → (c ≡ d → a ≡ b) → eqb a b ≡ eqb c d
+eqb-iff a b c d f g = on (eqb c d) refl
   where
-    on : (t : Bool) → eqb a b ≡ t → eqb (n + a) (n + b) ≡ eqb a b
-    on true e = eq-eqb (n + a) (n + b) (omega (arith, eqb-true a b e)) ∙ sym e
-    on false e = let q = eqb-false a b e in ne-eqb (n + a) (n + b) (λ z. q (omega arith)) ∙ sym e
+    on : (t : Bool) → eqb c d ≡ t → eqb a b ≡ eqb c d
+    on true e = eq-eqb a b (g (eqb-true c d e)) ∙ sym e
+    on false e = ne-eqb a b (λ z. eqb-false c d e (f z)) ∙ sym e
+
+eqb-add : (n a b : ℕ) → eqb (n + a) (n + b) ≡ eqb a b
+eqb-add n a b = eqb-iff (n + a) (n + b) a b (λ z. omega arith) (λ z. omega arith)
 
 -- how far a character reaches
 pub record Reach (s : List ℕ) (at v n : ℕ) : Type 0 where

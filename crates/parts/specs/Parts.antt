@@ -68,9 +68,24 @@ areMarks (m ∷ ms) = leb m 2 && areMarks ms
 unfoldable pub isCell : List ℕ → ℕ → ℕ → ℕ → Bool
 isCell s g b l = eqb b g && leb (g + l) (length s) && isPlain (take l (drop g s))
 
--- the cells from byte g on have these starts and lengths, and the last ends with the bytes
+-- the cells from byte g on have these starts and lengths, and the last ends at byte e
+unfoldable pub cellsTo : List ℕ → ℕ → ℕ → List ℕ → List ℕ → Bool
+cellsTo s e g [] [] = eqb g e
+cellsTo s e g [] (l ∷ ls) = false
+cellsTo s e g (b ∷ bs) [] = false
+cellsTo s e g (b ∷ bs) (l ∷ ls) = isCell s g b l && cellsTo s e (g + l) bs ls
+
+-- the last of them ends with the bytes
 unfoldable pub areCells : List ℕ → ℕ → List ℕ → List ℕ → Bool
-areCells s g [] [] = eqb g (length s)
-areCells s g [] (l ∷ ls) = false
-areCells s g (b ∷ bs) [] = false
-areCells s g (b ∷ bs) (l ∷ ls) = isCell s g b l && areCells s (g + l) bs ls
+areCells s g bs ls = cellsTo s (length s) g bs ls
+
+-- each of these cells is absent, behind g tag bytes
+unfoldable pub areAbsent : ℕ → List ℕ → List ℕ → Bool
+areAbsent g [] ls = true
+areAbsent g (b ∷ bs) [] = true
+areAbsent g (b ∷ bs) (l ∷ ls) = eqb b g && eqb l 0 && areAbsent g bs ls
+
+-- cells that are to start at byte g, as many starts as lengths
+pub record Row (g : ℕ) (s bs ls : List ℕ) : Type 0 where
+  pub inside : g ≤ length s
+  pub even : length bs ≡ length ls

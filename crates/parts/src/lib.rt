@@ -5,7 +5,7 @@ use utf8::Decoded;
 ghost use Prim.Native.Nat.{_+_, _-_, _≤_, _<_};
 ghost use mathlib.Core.Path.{_≡_};
 ghost use lib.ListN.{length, take, drop};
-ghost use Rattle.parts.specs.Parts.{zeros, isPlain, isChar, CharFits, isText, Places, areMarks, isCell, areCells};
+ghost use Rattle.parts.specs.Parts.{zeros, isPlain, isChar, CharFits, isText, Places, areMarks, isCell, cellsTo, areCells, areAbsent, Row};
 
 // Nothing but 0 at the inner bytes of a character.
 fn inner_zero(d: &[u16], at: usize, len: usize) -> bool
@@ -159,14 +159,12 @@ fn is_cell(bytes: &[u8], from: usize, start: usize, len: usize) -> bool
     is_plain(&bytes[from..to])
 }
 
-// The cells, by their starts and lengths.
-pub fn are_cells(bytes: &[u8], starts: &[u16], lengths: &[u16]) -> bool
-    ensures { λ ok. ⌜ ok ≡ areCells (now (bytes .entry)) 0 (now (starts .entry)) (now (lengths .entry)) ⌝ }
+// The cells from byte `start` to byte `end`, one by one.
+fn each_cell(bytes: &[u8], start: usize, end: usize, starts: &[u16], lengths: &[u16]) -> bool
+    requires { ⌜ Row start (now bytes) (now starts) (now lengths) ⌝ }
+    ensures { λ ok. ⌜ ok ≡ cellsTo (now (bytes .entry)) end start (now (starts .entry)) (now (lengths .entry)) ⌝ }
 {
-    if starts.len() != lengths.len() {
-        return false;
-    }
-    let mut from = 0;
+    let mut from = start;
     let mut i = 0;
     while i < lengths.len() {
         let len = lengths[i] as usize;
@@ -176,5 +174,69 @@ pub fn are_cells(bytes: &[u8], starts: &[u16], lengths: &[u16]) -> bool
         from += len;
         i += 1;
     }
-    from == bytes.len()
+    from == end
+}
+
+// Absent cells, all at once.
+fn are_absent(start: u16, starts: &[u16], lengths: &[u16]) -> bool
+    requires { ⌜ length (now starts) ≡ length (now lengths) ⌝ }
+    ensures { λ ok. ⌜ ok ≡ areAbsent start (now (starts .entry)) (now (lengths .entry)) ⌝ }
+{
+    let mut ok = true;
+    let mut i = 0;
+    while i < lengths.len() {
+        ok = ok & (starts[i] == start) & (lengths[i] == 0);
+        i += 1;
+    }
+    ok
+}
+
+// A row of cells from byte `start` to byte `end`: where it ends as it starts, all are absent.
+fn is_row(bytes: &[u8], start: u16, end: u16, starts: &[u16], lengths: &[u16]) -> bool
+    requires { ⌜ Row start (now bytes) (now starts) (now lengths) ⌝ }
+    ensures { λ ok. ⌜ ok ≡ cellsTo (now (bytes .entry)) end start (now (starts .entry)) (now (lengths .entry)) ⌝ }
+{
+    if start == end {
+        return are_absent(start, starts, lengths);
+    }
+    each_cell(bytes, start as usize, end as usize, starts, lengths)
+}
+
+// The cells in rows of so many; the last may have fewer.
+fn are_rows(columns: usize, bytes: &[u8], starts: &[u16], lengths: &[u16]) -> bool
+    requires { ⌜ (1 ≤ columns) × (length (now starts) ≡ length (now lengths)) ⌝ }
+    ensures { λ ok. ⌜ ok ≡ areCells (now (bytes .entry)) 0 (now (starts .entry)) (now (lengths .entry)) ⌝ }
+{
+    let n = starts.len();
+    let mut from = 0;
+    let mut i = 0;
+    while n - i > columns {
+        let next = i + columns;
+        let to = starts[next];
+        if !is_row(bytes, from, to, &starts[i..next], &lengths[i..next]) {
+            return false;
+        }
+        from = to;
+        i = next;
+    }
+    each_cell(
+        bytes,
+        from as usize,
+        bytes.len(),
+        &starts[i..],
+        &lengths[i..],
+    )
+}
+
+// The cells, by their starts and lengths; short rows are not worth a look of their own.
+pub fn are_cells(columns: usize, bytes: &[u8], starts: &[u16], lengths: &[u16]) -> bool
+    ensures { λ ok. ⌜ ok ≡ areCells (now (bytes .entry)) 0 (now (starts .entry)) (now (lengths .entry)) ⌝ }
+{
+    if starts.len() != lengths.len() {
+        return false;
+    }
+    if columns < 8 {
+        return each_cell(bytes, 0, bytes.len(), starts, lengths);
+    }
+    are_rows(columns, bytes, starts, lengths)
 }

@@ -16,7 +16,7 @@ use Rattle.types.specs.TypeOf.{typeOf}
 use Rattle.sentence.specs.Sentence.{Tag, Mark, none, word, unknown, code, Cells, Sentence, textOf, marksOf, rowsOf, text, marks, rows, types, charPositions, bytePositions, cut, rowBytes, tagBytes, Char, Row, CellsOf, Formed}
 use Rattle.sentence.proofs.Shape.{cut-row}
 use Rattle.sentence.proofs.Trips.{pad-whole}
-use Rattle.parts.specs.Parts.{isText, areMarks, isCell, areCells}
+use Rattle.parts.specs.Parts.{isText, areMarks, isCell, cellsTo, areCells}
 use Rattle.parts.proofs.Says.{same-self, Plain, plain-is, is-plain, TextIs, text-is}
 use Rattle.sheet.specs.declared.Record.{Record}
 use Rattle.sheet.specs.Layout.{Buffers, recordOf, tagsOf, cellsOf, cellStarts, bytesOf, lay, roomFor, Front, Holds, slices, rowsBy, markOf, link, spell, Sheet}
@@ -66,7 +66,7 @@ cells-more s g b l bs ls ts e h p a =
     }
 
 cells-are : (s x : List ℕ) (g : ℕ) (bs ls : List ℕ) → areCells s g bs ls ≡ true → CellsAre s g bs ls (map scalars (slices ls (drop g s ++ x)))
-unfolding areCells isCell slices
+unfolding areCells cellsTo isCell slices
 cells-are s x g [] [] e = cells-none s g (eqb-true g (length s) e)
 cells-are s x g [] (l ∷ ls) e = absurd (false≢true e)
 cells-are s x g (b ∷ bs) [] e = absurd (false≢true e)
@@ -78,7 +78,7 @@ cells-are s x g (b ∷ bs) (l ∷ ls) k =
     (cells-more s g b l bs ls _ (eqb-true b g a) v (plain-is _ p) (cells-are s x (g + l) bs ls rest))
 
 are-cells : (s : List ℕ) (g : ℕ) (ts : List Tag) → All (All Char) ts → drop g s ≡ bytesOf ts → g + rowBytes ts ≡ length s → areCells s g (cellStarts g ts) (map size ts) ≡ true
-unfolding areCells isCell cellStarts bytesOf rowBytes
+unfolding areCells cellsTo isCell cellStarts bytesOf rowBytes
 are-cells s g [] a e h = eq-eqb g (length s) (omega arith)
 are-cells s g (t ∷ ts) a e h =
     let c = ap (take (size t)) e ∙ take-at (encodes t) (bytesOf ts) _ (length-encodes t) in

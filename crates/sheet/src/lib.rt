@@ -95,6 +95,7 @@ fn is_laid(
         return false;
     }
     parts::are_cells(
+        r.columns,
         &tag_bytes[..r.g],
         &cell_starts[..r.cells],
         &cell_lengths[..r.cells],

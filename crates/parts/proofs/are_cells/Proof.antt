@@ -1,80 +1,24 @@
-use Prim.Native.Nat.{_-_}
-use native.Mathlib.Omega.{arith}
-use lib.ListN.{length}
-use Rattle.parts.proofs.Steps.{Celled, cells-start, cells-uneven, cells-go, cells-no, cells-done}
 use borrow.Author.Needs.{needs}
+use Rattle.parts.specs.Parts.{areCells}
+use Rattle.parts.proofs.Cells.{cells-uneven}
 use Rattle.parts.proofs.are_cells.Statement.{statement}
 use Rattle.parts.proofs.are_cells.Tie as tie
 
-abbrev Inv-loop : tie.InvT-loop
-Inv-loop bytes starts lengths from₀ i₀ from i = Celled bytes starts lengths from i
-
-abbrev μ-loop : tie.MeasureT-loop
-μ-loop bytes starts lengths from₀ i₀ from i = length lengths - i
-
-returns : tie.Need-returns Inv-loop μ-loop
+returns : tie.Need-returns
 returns c = search cells-uneven
 
-loop-holds : tie.Need-loop-holds Inv-loop μ-loop
-loop-holds c = search cells-start
+each-cell-requires : tie.Need-each-cell-requires
+each-cell-requires c κs = search needs
 
-mul-len : tie.Need-mul-len Inv-loop μ-loop
-mul-len c = search needs
+returns-2 : tie.Need-returns-2
+unfolding areCells
+returns-2 c = search needs
 
-shared-slice-read-len : tie.Need-shared-slice-read-len Inv-loop μ-loop
-shared-slice-read-len c = search needs
+are-rows-requires : tie.Need-are-rows-requires
+are-rows-requires c κs = search needs
 
-cast-len : tie.Need-cast-len Inv-loop μ-loop
-cast-len c = omega (arith, c .shared-slice-known4 .given (c .before .before .loop .i))
-
-mul-is-cell : tie.Need-mul-is-cell Inv-loop μ-loop
-mul-is-cell c = search needs
-
-shared-slice-read-is-cell : tie.Need-shared-slice-read-is-cell Inv-loop μ-loop
-shared-slice-read-is-cell c = search needs
-
-cast-is-cell : tie.Need-cast-is-cell Inv-loop μ-loop
-cast-is-cell c = omega (arith, c .shared-slice-known5 .given (c .before .before .before .loop .i))
-
-is-cell-requires : tie.Need-is-cell-requires Inv-loop μ-loop
-is-cell-requires c κs = omega (arith, c .before .shared-slice-known4 .given (c .before .before .before .loop .i))
-
-returns-2 : tie.Need-returns-2 Inv-loop μ-loop
-returns-2 c = search cells-no
-
-add-from : tie.Need-add-from Inv-loop μ-loop
-add-from c = omega (arith, c .before .before .before .shared-slice-known4 .given (c .before .before .before .before .before .loop .i))
-
-add-i : tie.Need-add-i Inv-loop μ-loop
-add-i c = search needs
-
-loop-less : tie.Need-loop-less Inv-loop μ-loop
-loop-less c = search needs
-
-loop-again : tie.Need-loop-again Inv-loop μ-loop
-loop-again c = search cells-go
-
-returns-3 : tie.Need-returns-3 Inv-loop μ-loop
-returns-3 c = search cells-done
+returns-3 : tie.Need-returns-3
+returns-3 c = search needs
 
 pub are-cells-spec : {M : Type 1} → statement M
-are-cells-spec =
-    tie.close
-    (tie.spec
-    Inv-loop
-    μ-loop
-    returns
-    loop-holds
-    mul-len
-    shared-slice-read-len
-    cast-len
-    mul-is-cell
-    shared-slice-read-is-cell
-    cast-is-cell
-    is-cell-requires
-    returns-2
-    add-from
-    add-i
-    loop-less
-    loop-again
-    returns-3)
+are-cells-spec = tie.close (tie.spec returns each-cell-requires returns-2 are-rows-requires returns-3)

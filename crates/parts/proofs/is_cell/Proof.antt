@@ -1,4 +1,4 @@
-use Rattle.parts.proofs.Steps.{cell-elsewhere, cell-none, cell-past, cell-plain}
+use Rattle.parts.proofs.Cells.{cell-elsewhere, cell-none, cell-past, cell-plain}
 use borrow.Author.Needs.{needs}
 use Rattle.parts.proofs.is_cell.Statement.{statement}
 use Rattle.parts.proofs.is_cell.Tie as tie
