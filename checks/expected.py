@@ -1,14 +1,14 @@
 #!/usr/bin/env python3
 """Whether the file `stdout` that a program's output is held to is what its expected.py makes.
 
-Each makes it by itself and takes nothing from the program: `vectors` by Python's codec, `damaged` and `hiding` by documents 01 and 02, `cases` by them
+Each makes it by itself and takes nothing from the program: `test_vectors` by Python's codec, `test_damaged` and `test_hiding` by documents 01 and 02, `test_cases` by them
 and by what the Rust answered (host/recorded). Status 0 where all agree, 1 where one does not. The last line counts what each compared.
 """
 import os
 import subprocess
 import sys
 
-PROGRAMS = ["vectors", "damaged", "cases", "hiding"]
+PROGRAMS = ["test_vectors", "test_damaged", "test_cases", "test_hiding"]
 ROOT = os.path.join(os.path.dirname(os.path.abspath(__file__)), "..")
 
 

@@ -1,9 +1,9 @@
 #!/usr/bin/env python3
-"""Asks the built program `hiding` for note keys and withheld copies and compares each answer with crates/hiding/reading.py.
+"""Asks the built program `test_hiding` for note keys and withheld copies and compares each answer with crates/test_hiding/reading.py.
 
     python3 checks/hiding.py [PROGRAM]
 
-PROGRAM is target/bin/hiding where none is named; on a processor other than x86-64 it runs under the kit's emulator.
+PROGRAM is target/bin/test_hiding where none is named; on a processor other than x86-64 it runs under the kit's emulator.
 Copies are asked of all ranges of: every accepted partial line of up to six characters over a small alphabet; every sentence of up to six text
 characters with every mark and few tags; the recorded partial lines of up to six text characters; and of drawn ranges of drawn lines.
 Keys are asked of: every accepted partial or tokenized line of up to six characters over that alphabet, and raw line of up to four; those
@@ -25,7 +25,7 @@ from random import Random
 
 sys.dont_write_bytecode = True
 ROOT = os.path.join(os.path.dirname(os.path.abspath(__file__)), "..")
-sys.path.insert(0, os.path.join(ROOT, "crates", "hiding"))
+sys.path.insert(0, os.path.join(ROOT, "crates", "test_hiding"))
 from expected import bytes_of, every, shown  # noqa: E402
 from questions import copies, copy, drawn, drawn_range, key, partial  # noqa: E402
 from reading import Sentence, copy_of, key_of, note, outside, read_line, touches, written  # noqa: E402
@@ -45,9 +45,9 @@ def fail(*words):
 
 def command():
     """The program, with what it is run by."""
-    program = os.path.abspath(sys.argv[1] if len(sys.argv) > 1 else os.path.join(ROOT, "target", "bin", "hiding"))
+    program = os.path.abspath(sys.argv[1] if len(sys.argv) > 1 else os.path.join(ROOT, "target", "bin", "test_hiding"))
     if not os.path.exists(program):
-        print(f"{program} is not there; `rt check hiding` proves and builds it")
+        print(f"{program} is not there; `rt check test_hiding` proves and builds it")
         sys.exit(2)
     guide = subprocess.run(["rt", "doc"], capture_output=True, text=True, check=True).stdout.strip()
     tools = os.path.join(os.path.dirname(os.path.dirname(guide)), "on", platform.machine(), "toolchain")
@@ -181,7 +181,7 @@ def small_sentences(sizes):
 
 def recorded(form):
     """The lines of a form in the recorded questions, where their texts have up to six characters."""
-    with open(os.path.join(ROOT, "crates", "cases", "stdin")) as file:
+    with open(os.path.join(ROOT, "crates", "test_cases", "stdin")) as file:
         lines = {bytes_of(fields[1]) for fields in map(str.split, file) if fields[0] in (form, form.lower()) and fields[1] != "."}
     return [case for case in accepted(form, sorted(lines)) if len(case[2].chars) <= 6]
 

@@ -5,8 +5,8 @@ Usage: python3 checks/promises.py [ROOT]. Status 0 where they agree, 1 where the
 where. The last line counts what was compared.
 
 A function is a `pub fn` of crates/NAME/src, also one in an `impl`. Its name is the path of its definition: `crate::module::function`,
-`crate::module::Type::method`. It is internal where it stands in a module `given` or below one, in a module that its crate keeps
-private and does not hand on with `pub use`, in a program (src/main.rt), or in a library of the programs that run cases (`casework`
+`crate::module::Type::method`. It is internal where it stands in a module `unchecked` or below one, in a module that its crate keeps
+private and does not hand on with `pub use`, in a program (src/main.rt), or in a library of the programs that run cases (`test_casework`
 and each crate that leans on it, by crates.txt). Any other is public.
 
 - Each function stands in one row: a public one in a table of the section 'Public functions', an internal one in a table of the section
@@ -106,9 +106,9 @@ def sources(faults):
                 )
                 handed_on = full in handed or (own and (*modules, *own) in handed)
                 internal = (
-                    "given" in modules[1:]
+                    "unchecked" in modules[1:]
                     or program
-                    or "casework" in leans.get(crate, ()) | {crate}
+                    or "test_casework" in leans.get(crate, ()) | {crate}
                     or not (open_way or handed_on)
                 )
                 line = text.count("\n", 0, found.end()) + 1
@@ -190,9 +190,9 @@ def compare_functions(rows, functions, faults):
         elif listed[name][1] != section:
             faults.append(f"{listed[name][0]}: `{name}` is {kind} ({f.place}): move it to a table of '{section}'")
         if f.assumes and not f.internal:
-            faults.append(f"{f.place}: `{name}` is public and has a `requires`: take it away, or move the function to a module `given`")
+            faults.append(f"{f.place}: `{name}` is public and has a `requires`: take it away, or move the function to a module `unchecked`")
         if not f.promises and not f.internal:
-            faults.append(f"{f.place}: `{name}` is public and has no `ensures`: give it one, or move the function to a module `given`")
+            faults.append(f"{f.place}: `{name}` is public and has no `ensures`: give it one, or move the function to a module `unchecked`")
 
 
 def compare_edits(rows, faults):

@@ -2,7 +2,7 @@
 """Runs host/keys.sh and looks at what it prints, what it says and how it ends.
 
 Usage: keys.py
-Its answers are compared with a second reading, crates/hiding/reading.py, for every short line over a small alphabet, drawn lines, and lines around the
+Its answers are compared with a second reading, crates/test_hiding/reading.py, for every short line over a small alphabet, drawn lines, and lines around the
 limits, in all three forms; and it is run on input that arrives in pieces, on files and devices that fail, and on words that it does not know.
 Prints what ended otherwise, and how many runs and answers there were. Status 0: all is well; 1: something is not; 2: it could not be run.
 """
@@ -16,7 +16,7 @@ from itertools import product
 
 HERE = os.path.dirname(os.path.abspath(__file__))
 SCRIPT = ["bash", os.path.join(HERE, "keys.sh")]
-sys.path.insert(0, os.path.join(os.path.dirname(HERE), "crates", "hiding"))
+sys.path.insert(0, os.path.join(os.path.dirname(HERE), "crates", "test_hiding"))
 sys.dont_write_bytecode = True
 LIMIT = 120
 FORMS = ["raw", "tokenized", "partial"]

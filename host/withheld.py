@@ -1,5 +1,5 @@
 #!/usr/bin/env python3
-"""Compares the port's withheld copies and keys with a second reading of what is asked of them, crates/hiding/reading.py.
+"""Compares the port's withheld copies and keys with a second reading of what is asked of them, crates/test_hiding/reading.py.
 
 Usage: withheld.py PROGRAM...
 PROGRAM is the command that runs host/withhold.c. Questions: worked ones, every range of every short line, lines drawn from a fixed seed,
@@ -16,7 +16,7 @@ from functools import cache
 from itertools import product
 from pathlib import Path
 
-sys.path.insert(0, str(Path(__file__).resolve().parent.parent / "crates/hiding"))
+sys.path.insert(0, str(Path(__file__).resolve().parent.parent / "crates/test_hiding"))
 
 # What is asked of the program. The form is a letter; a key has no range; `more` is how many characters too many the sheet is said to have.
 Question = namedtuple("Question", "call form line start end room more")

@@ -4,7 +4,7 @@ set -eu
 . "$(dirname "${BASH_SOURCE[0]}")/tools.sh"
 no_words 'usage: host/withhold.sh
 Builds host/withhold.c with the static library of crates/exports, and has host/withheld.py ask it for withheld copies and keys and compare them with
-a second reading, crates/hiding/reading.py.
+a second reading, crates/test_hiding/reading.py.
 Status 0: all are the same; 1: one is not; 2: it could not be built or run.' "$@"
 command -v rt >/dev/null || give_up_without "$(no_rt)"
 command -v python3 >/dev/null || give_up_without "$(no_python)"

@@ -11,22 +11,22 @@ use Rattle.sentence.specs.Sentence.{code, Sentence, text, marks, rows, pad}
 use Rattle.sentence.specs.Writing.{setBoundary, resetTags}
 use Rattle.sheet.specs.declared.Record.{Record}
 use Rattle.sheet.specs.Layout.{Buffers, buffers, recordOf, tagsOf, cellsOf, cellStarts, bytesOf, lay, laid, Holds, markOf}
-use Rattle.sheet.proofs.Held.{Part, text-held, types-held, boundaries-held, char-pos-held, byte-pos-held, cell-starts-held, cell-lengths-held, tag-bytes-held}
-use Rattle.sheet.proofs.Look.{bounds, part-whole, part-length}
+use Rattle.sheet.proofs.Held.{Prefix, text-held, types-held, boundaries-held, char-pos-held, byte-pos-held, cell-starts-held, cell-lengths-held, tag-bytes-held}
+use Rattle.sheet.proofs.Look.{bounds, prefix-whole, prefix-length}
 use Rattle.sheet.specs.declared.Answer.the-variants as answer
 use Rattle.changes.specs.Changes.{Laid}
 use Rattle.changes.proofs.Changed.{text-set, rows-set, marks-set, text-bare, marks-bare, rows-bare, no-tag-bytes}
 
--- a part laid over a buffer that starts with it
-over-same : {n : ℕ} {p d : List ℕ} → Part n p d → over p d ≡ d
-over-same {n} {p} {d} h = rw (part-length h) (part-whole h)
+-- a list laid over a buffer that starts with it
+over-same : {n : ℕ} {p d : List ℕ} → Prefix n p d → over p d ≡ d
+over-same {n} {p} {d} h = rw (prefix-length h) (prefix-whole h)
 
 -- and with one element changed
-over-set : {n : ℕ} {p d : List ℕ} → Part n p d → (i v : ℕ) → i < n → over (set p i v) d ≡ set d i v
+over-set : {n : ℕ} {p d : List ℕ} → Prefix n p d → (i v : ℕ) → i < n → over (set p i v) d ≡ set d i v
 over-set {n} {p} {d} h i v k =
-    let l = part-length h in
+    let l = prefix-length h in
     rw (length-set, l)
-    (sym (set-append-left p (drop n d) i v (omega arith)) ∙ ap (λ (x : List ℕ). set x i v) (part-whole h))
+    (sym (set-append-left p (drop n d) i v (omega arith)) ∙ ap (λ (x : List ℕ). set x i v) (prefix-whole h))
 
 map-set : {A B : Type 0} (f : A → B) (l : List A) (i : ℕ) (a : A) → map f (set l i a) ≡ set (map f l) i (f a)
 map-set f [] i a = refl

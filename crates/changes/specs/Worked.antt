@@ -1,5 +1,6 @@
 -- Worked refusals of `reset_tags` for T `ab`: 14 before 11, whatever the room, and 11 where there are three cells for two columns.
 use Prim.Native.Nat.{_*_}
+use Prim.Native.Char.{code as chr}
 use mathlib.Core.Path.{_≡_, refl}
 use mathlib.Core.Bool.{true}
 use mathlib.Core.List.{[]}
@@ -12,7 +13,7 @@ use Rattle.sheet.specs.Layout.{Buffers}
 use Rattle.changes.specs.Changes.{lackCells, resetAnswer}
 
 unfoldable pub ab : Sentence
-ab = record { cells = cell 97 [] none (final 98 []); columns = 0 }
+ab = record { cells = cell (chr "a") [] none (final (chr "b") []); columns = 0 }
 
 pub reset-far : (d : Buffers) → resetAnswer true ab 4097 d ≡ answer.Refused (refusal 14 4097)
 unfolding resetAnswer verdict if_then_else_

@@ -5,10 +5,10 @@ use sheet::Record;
 ghost use mathlib.Core.Path.{_≡_};
 ghost use mathlib.Core.Bool.{_&&_};
 ghost use lib.Dec.{leb};
-ghost use Rattle.sheet.specs.Layout.{buffers};
+ghost use Rattle.sheet.specs.Layout.{lentAfter, lentBefore, withBoundaries, withCells};
 ghost use Rattle.changes.specs.Changes.{DefaultSet, BoundarySet, TagsReset};
 
-pub mod given;
+pub mod unchecked;
 
 // Whether buffers of these lengths have the one-blank sentence's room; boundaries and tags need none.
 fn blank_fits(text: usize, types: usize, char_pos: usize, byte_pos: usize) -> bool
@@ -28,7 +28,8 @@ pub fn set_default(
     cell_lengths: &mut [u16],
     tag_bytes: &mut [u8],
 ) -> Answer
-    ensures { λ r. ⌜ DefaultSet (buffers (now (text .entry)) (now (types .entry)) (now (boundaries .entry)) (now («char_pos» .entry)) (now («byte_pos» .entry)) (now («cell_starts» .entry)) (now («cell_lengths» .entry)) (now («tag_bytes» .entry))) r (buffers (now (text .exit)) (now (types .exit)) (now (boundaries .exit)) (now («char_pos» .exit)) (now («byte_pos» .exit)) (now («cell_starts» .exit)) (now («cell_lengths» .exit)) (now («tag_bytes» .exit))) ⌝ }
+    ensures { λ r. ⌜ DefaultSet (lentBefore text types boundaries «char_pos» «byte_pos» «cell_starts» «cell_lengths» «tag_bytes») r
+        (lentAfter text types boundaries «char_pos» «byte_pos» «cell_starts» «cell_lengths» «tag_bytes») ⌝ }
 {
     if !blank_fits(text.len(), types.len(), char_pos.len(), byte_pos.len()) {
         return Answer::Refused(Refusal {
@@ -36,7 +37,7 @@ pub fn set_default(
             place: 0,
         });
     }
-    text[0] = 32;
+    text[0] = b' ';
     types[0] = 6;
     char_pos[0] = 0;
     char_pos[1] = 1;
@@ -65,7 +66,8 @@ pub fn set_boundary(
     i: usize,
     value: u8,
 ) -> Answer
-    ensures { λ a. ⌜ BoundarySet r (buffers (now (text .entry)) (now (types .entry)) (now (boundaries .entry)) (now («char_pos» .entry)) (now («byte_pos» .entry)) (now («cell_starts» .entry)) (now («cell_lengths» .entry)) (now («tag_bytes» .entry))) i value a (buffers (now (text .entry)) (now (types .entry)) (now (boundaries .exit)) (now («char_pos» .entry)) (now («byte_pos» .entry)) (now («cell_starts» .entry)) (now («cell_lengths» .entry)) (now («tag_bytes» .entry))) ⌝ }
+    ensures { λ a. ⌜ BoundarySet r (lentBefore text types boundaries «char_pos» «byte_pos» «cell_starts» «cell_lengths» «tag_bytes») i value a
+        (withBoundaries (now (boundaries .exit)) (lentBefore text types boundaries «char_pos» «byte_pos» «cell_starts» «cell_lengths» «tag_bytes»)) ⌝ }
 {
     if !sheet::check(
         r,
@@ -89,7 +91,7 @@ pub fn set_boundary(
             place: i,
         });
     }
-    given::set_boundary(
+    unchecked::set_boundary(
         r,
         text,
         types,
@@ -117,7 +119,9 @@ pub fn reset_tags(
     tag_bytes: &[u8],
     c: usize,
 ) -> Answer
-    ensures { λ a. ⌜ TagsReset r (buffers (now (text .entry)) (now (types .entry)) (now (boundaries .entry)) (now («char_pos» .entry)) (now («byte_pos» .entry)) (now («cell_starts» .entry)) (now («cell_lengths» .entry)) (now («tag_bytes» .entry))) c a (buffers (now (text .entry)) (now (types .entry)) (now (boundaries .entry)) (now («char_pos» .entry)) (now («byte_pos» .entry)) (now («cell_starts» .exit)) (now («cell_lengths» .exit)) (now («tag_bytes» .entry))) ⌝ }
+    ensures { λ a. ⌜ TagsReset r (lentBefore text types boundaries «char_pos» «byte_pos» «cell_starts» «cell_lengths» «tag_bytes») c a (withCells
+        (now («cell_starts» .exit)) (now («cell_lengths» .exit))
+        (lentBefore text types boundaries «char_pos» «byte_pos» «cell_starts» «cell_lengths» «tag_bytes»)) ⌝ }
 {
     if !sheet::check(
         r,
@@ -148,7 +152,7 @@ pub fn reset_tags(
             place: 0,
         });
     }
-    given::reset_tags(
+    unchecked::reset_tags(
         r,
         text,
         types,

@@ -16,11 +16,11 @@ use Rattle.sentence.specs.Reading.{Form, State, at, start, Run, whole, stopped,
 use Rattle.sentence.specs.Writing.{written}
 use Rattle.sentence.specs.Refusals.{refusal, verdict, hostOrder}
 use Rattle.sentence.proofs.Shape.{read-formed}
-use Rattle.passage.specs.Between.{Outcome, writes, refuses, formOf, overfull, between, answerOf, Converts}
+use Rattle.convert_buffers.specs.Between.{Outcome, writes, refuses, formOf, overfull, between, answerOf, Converts}
 use Rattle.convert.specs.Convert.{unknownForms, outOfRange, conversion, codeOf}
-use Rattle.passage.specs.declared.Converted.{Converted}
-use Rattle.passage.specs.declared.Converted.the-variants.{Wrote, Refused}
-use Rattle.passage.proofs.Outcomes.{was-refused}
+use Rattle.convert_buffers.specs.declared.Converted.{Converted}
+use Rattle.convert_buffers.specs.declared.Converted.the-variants.{Wrote, Refused}
+use Rattle.convert_buffers.proofs.Outcomes.{was-refused}
 use Rattle.convert.proofs.Lengths.{written-small}
 
 -- ---- places are small

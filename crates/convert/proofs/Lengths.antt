@@ -15,7 +15,7 @@ use Rattle.sentence.proofs.Shape.{cut-bytes}
 use Rattle.sentence.proofs.Trips.{Shows, pad-shows, shown-shows}
 use Rattle.sentence.proofs.Tokens.{tokens-few}
 use Rattle.sheet.proofs.Held.{length-marks, rows-are}
-use Rattle.passage.proofs.Rooms.{count-size}
+use Rattle.convert_buffers.proofs.Rooms.{count-size}
 
 -- ---- tags
 escape-one : (k : Kind) (c : ℕ) → size (escapeAs k c) ≤ 2 * width c

@@ -16,11 +16,11 @@ use Rattle.sentence.specs.Sentence.{Sentence}
 use Rattle.sentence.specs.Reading.{Form, Result, sentence, refused, read}
 use Rattle.sentence.specs.Writing.{written}
 use Rattle.sentence.specs.Refusals.{refusal, verdict, hostOrder}
-use Rattle.passage.specs.Between.{Outcome, writes, refuses, formOf, overfull, between, answerOf, outputOf, Converts}
+use Rattle.convert_buffers.specs.Between.{Outcome, writes, refuses, formOf, overfull, between, answerOf, outputOf, Converts}
 use Rattle.convert.specs.Convert.{unknownForms, outOfRange, conversion}
-use Rattle.passage.specs.declared.Converted.{Converted}
-use Rattle.passage.specs.declared.Converted.the-variants.{Wrote, Refused}
-use Rattle.passage.proofs.Outcomes.{between-fits, was-written, was-refused}
+use Rattle.convert_buffers.specs.declared.Converted.{Converted}
+use Rattle.convert_buffers.specs.declared.Converted.the-variants.{Wrote, Refused}
+use Rattle.convert_buffers.proofs.Outcomes.{between-fits, was-written, was-refused}
 
 -- the answer as it is
 abbrev Plain : Outcome → ℕ → List ℕ → Converted → List ℕ → Type 0

@@ -3,9 +3,9 @@ use Prim.Native.Nat.{ℕ, _+_, _-_, _*_, _^_}
 use mathlib.Core.Bool.{Bool, _||_}
 use mathlib.Core.List.{List}
 use lib.Dec.{eqb, ltb}
-use Rattle.passage.specs.Between.{Outcome, formOf, between}
-use Rattle.passage.specs.declared.Converted.{Converted}
-use Rattle.passage.specs.declared.Converted.the-variants.{Wrote, Refused}
+use Rattle.convert_buffers.specs.Between.{Outcome, formOf, between}
+use Rattle.convert_buffers.specs.declared.Converted.{Converted}
+use Rattle.convert_buffers.specs.declared.Converted.the-variants.{Wrote, Refused}
 
 -- a number above 2 is no form, and raw is no form to write
 unfoldable pub unknownForms : ℕ → ℕ → Bool

@@ -1,9 +1,9 @@
 // The conversion of a line from one form to another, for programs and for the host.
-use passage::Converted;
+use convert_buffers::Converted;
 use sentence::Refusal;
 ghost use mathlib.Core.Path.{_≡_};
 ghost use lib.ListN.{length};
-ghost use Rattle.passage.specs.Between.{Converts};
+ghost use Rattle.convert_buffers.specs.Between.{Converts};
 ghost use Rattle.convert.specs.Convert.{unknownForms, outOfRange, conversion, codeOf};
 
 // Whether a number is no form to read, or no form to write.
@@ -23,7 +23,8 @@ fn out_of_range(size: usize, at: usize) -> bool
 // Reads a line in the form `reader` (0 raw, 1 tokenized, 2 partial) and writes it in the form `writer` (1 or 2) into the output, behind the bytes
 // before `at`.
 pub fn convert(reader: u32, writer: u32, line: &[u8], out: &mut [u8], at: usize) -> Converted
-    ensures { λ r. ⌜ Converts (λ (c : Converted). c) (conversion reader writer (now (line .entry)) (length (now (out .entry))) at) at (now (out .entry)) r (now (out .exit)) ⌝ }
+    ensures { λ r. ⌜ Converts (λ (c : Converted). c) (conversion reader writer (now (line .entry)) (length (now (out .entry))) at) at (now (out .entry)) r
+        (now (out .exit)) ⌝ }
 {
     let unknown = unknown_forms(reader, writer);
     let outside = out_of_range(out.len(), at);
@@ -39,7 +40,7 @@ pub fn convert(reader: u32, writer: u32, line: &[u8], out: &mut [u8], at: usize)
             place: 0,
         });
     }
-    match passage::given::between(reader, writer, line, &mut out[at..]) {
+    match convert_buffers::unchecked::between(reader, writer, line, &mut out[at..]) {
         Converted::Wrote(n) => Converted::Wrote(at + n),
         Converted::Refused(r) => Converted::Refused(r),
     }
@@ -55,7 +56,8 @@ pub extern "C" fn ighdelmur_convert(
     out: &mut [u8],
     at: usize,
 ) -> u64
-    ensures { λ r. ⌜ Converts codeOf (conversion reader writer (now (line .entry)) (length (now (out .entry))) at) at (now (out .entry)) r (now (out .exit)) ⌝ }
+    ensures { λ r. ⌜ Converts codeOf (conversion reader writer (now (line .entry)) (length (now (out .entry))) at) at (now (out .entry)) r
+        (now (out .exit)) ⌝ }
 {
     match convert(reader, writer, line, out, at) {
         Converted::Wrote(e) => e as u64,

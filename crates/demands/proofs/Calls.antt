@@ -11,7 +11,7 @@ use Rattle.sentence.specs.Reading.{Form, sentence, read}
 use Rattle.sheet.specs.declared.Record.{Record}
 use Rattle.sheet.specs.declared.Number.the-variants as number
 use Rattle.sheet.specs.Layout.{Buffers, Holds}
-use Rattle.load.proofs.Laws.{read-holds}
+use Rattle.read_load.proofs.Laws.{read-holds}
 use Rattle.demands.specs.Calls.{Contract, Gives, Laid}
 
 -- a call that is served wherever there is room puts its line at the front of some output

@@ -30,31 +30,31 @@ use Rattle.sheet.specs.declared.Answer.{Answer}
 use Rattle.sheet.specs.declared.Answer.the-variants as answer
 use Rattle.sheet.specs.declared.Number.{Number}
 use Rattle.sheet.specs.declared.Number.the-variants as number
-use Rattle.sheet.specs.declared.Part.{Part}
-use Rattle.sheet.specs.declared.Part.the-variants as part
+use Rattle.sheet.specs.declared.Slice.{Slice}
+use Rattle.sheet.specs.declared.Slice.the-variants as slice
 use Rattle.sheet.specs.Layout.{Buffers, buffers, recordOf, roomFor, laid, spell}
 use Rattle.sheet.specs.Check.{isSheet}
 use Rattle.sheet.proofs.Exact.{is-sheet, holds-is}
-use Rattle.lookups.specs.Answers.{charToStrPos, strToCharPos, boundaryAt, tagPart, tagAt, surfaceAt}
-use Rattle.lookups.proofs.Parts.{tag-within, surface-within}
+use Rattle.lookups.specs.Answers.{charToStrPos, strToCharPos, boundaryAt, tagSlice, tagAt, surfaceAt}
+use Rattle.lookups.proofs.Slices.{tag-within, surface-within}
 use Rattle.changes.specs.Changes.{Lays, defaultAnswer, DefaultSet, boundaryAnswer, BoundarySet, resetAnswer, TagsReset}
 use Rattle.scores.specs.Scores.{scoreAnswer, Predicted}
-use Rattle.load.specs.Load.{lacks, readAnswer, readLeaves, ReadDoes}
+use Rattle.read_load.specs.Load.{lacks, readAnswer, readLeaves, ReadDoes}
 use Rattle.read.specs.Read.{updateAnswer, updateLeaves, UpdateDoes}
-use Rattle.load.proofs.Ways.{same-is}
+use Rattle.read_load.proofs.Ways.{same-is}
 use Rattle.tokens.specs.declared.Next.{Next}
 use Rattle.tokens.specs.declared.Next.the-variants as step-answer
 use Rattle.tokens.specs.declared.Token.{Token}
 use Rattle.tokens.specs.Steps.{spanOf, tokensOf, nextOf, listOrder, countOf, Listed}
 use Rattle.write.specs.Answers.{lineOf, writeOrder, Written, copyOf, noRange, withholdOrder, Withholds, keyOf, keyOrder, Keyed}
-use Rattle.passage.specs.declared.Converted.{Converted}
-use Rattle.passage.specs.Between.{Outcome, writes, formOf, between, overfull, answerOf, outputOf, Converts}
-use Rattle.passage.specs.Between.{refuses as no-line}
+use Rattle.convert_buffers.specs.declared.Converted.{Converted}
+use Rattle.convert_buffers.specs.Between.{Outcome, writes, formOf, between, overfull, answerOf, outputOf, Converts}
+use Rattle.convert_buffers.specs.Between.{refuses as no-line}
 use Rattle.convert.specs.Convert.{unknownForms, outOfRange, conversion, codeOf}
 use Rattle.exports.specs.Exports.{noReader, readFirst, readCode, readNumbers, hostAnswer, hostLeaves, HostReads, hostWriteOrder, numberCode, HostWrites, nearest, hostWithholdOrder, HostWithholds, HostKeys, spanned, stepCode, stepSpan, HostSteps}
 use Rattle.respelling.proofs.Runs.{finished}
 use Rattle.respelling.proofs.Whole.{only-whole}
-use Rattle.demands.specs.Demand1.{Said, serves, refuses, ofAnswer, ofNumber, ofPart, ofNext, ofConverted, Allowed, exactly, allows, oneOf, Answers, Settled, Blanked, formRefusals, lineRefusals, readRefusals, updateRefusals, askRefusals, resetRefusals, fillRefusals, copyRefusals, passRefusals, convertRefusals, Stands, Demand1}
+use Rattle.demands.specs.Demand1.{Said, serves, refuses, ofAnswer, ofNumber, ofSlice, ofNext, ofConverted, Allowed, exactly, allows, oneOf, Answers, Settled, Blanked, formRefusals, lineRefusals, readRefusals, updateRefusals, askRefusals, resetRefusals, fillRefusals, copyRefusals, passRefusals, convertRefusals, Stands, Demand1}
 
 -- ---- one of the refusals
 eqb-self : (n : ℕ) → eqb n n ≡ true
@@ -117,9 +117,9 @@ tells-number : (x : Refusal) → ofNumber (number.Refused x) ≡ refuses x
 unfolding ofNumber
 tells-number x = refl
 
-tells-part : (x : Refusal) → ofPart (part.Refused x) ≡ refuses x
-unfolding ofPart
-tells-part x = refl
+tells-slice : (x : Refusal) → ofSlice (slice.Refused x) ≡ refuses x
+unfolding ofSlice
+tells-slice x = refl
 
 tells-next : (x : Refusal) → ofNext (step-answer.Refused x) ≡ refuses x
 unfolding ofNext
@@ -133,12 +133,12 @@ serves-number : (n : ℕ) → ofNumber (number.Is n) ≡ serves
 unfolding ofNumber
 serves-number n = refl
 
-serves-bytes : (b e : ℕ) → ofPart (part.Bytes b e) ≡ serves
-unfolding ofPart
+serves-bytes : (b e : ℕ) → ofSlice (slice.Bytes b e) ≡ serves
+unfolding ofSlice
 serves-bytes b e = refl
 
-serves-tag : (b : ℕ) (t : List ℕ) → ofPart (tagPart b t) ≡ serves
-unfolding ofPart tagPart
+serves-tag : (b : ℕ) (t : List ℕ) → ofSlice (tagSlice b t) ≡ serves
+unfolding ofSlice tagSlice
 serves-tag b [] = refl
 serves-tag b (c ∷ t) = refl
 
@@ -628,9 +628,9 @@ asked-number : (bad out : Bool) (i n : ℕ) → Answers (askRefusals i) (ofNumbe
 asked-number bad out i n =
     answers ofNumber number.Refused tells-number (askRefusals i) (sheetOrder bad out i false 0) (number.Is n) (serves-number n) (sheet-13-14 bad out i)
 
-asked-part : (bad out : Bool) (i : ℕ) (p : Part) → ofPart p ≡ serves → Answers (askRefusals i) (ofPart (verdict part.Refused (sheetOrder bad out i false 0) p))
-asked-part bad out i p h =
-    answers ofPart part.Refused tells-part (askRefusals i) (sheetOrder bad out i false 0) p h (sheet-13-14 bad out i)
+asked-slice : (bad out : Bool) (i : ℕ) (p : Slice) → ofSlice p ≡ serves → Answers (askRefusals i) (ofSlice (verdict slice.Refused (sheetOrder bad out i false 0) p))
+asked-slice bad out i p h =
+    answers ofSlice slice.Refused tells-slice (askRefusals i) (sheetOrder bad out i false 0) p h (sheet-13-14 bad out i)
 
 char-pos : (good : Bool) (s : Sentence) (i : ℕ) → Answers (askRefusals i) (ofNumber (charToStrPos good s i))
 unfolding charToStrPos
@@ -644,13 +644,13 @@ mark-at : (good : Bool) (s : Sentence) (i : ℕ) → Answers (askRefusals i) (of
 unfolding boundaryAt
 mark-at good s i = asked-number (not good) _ i _
 
-cell-at : (good : Bool) (s : Sentence) (i j : ℕ) → Answers (askRefusals i) (ofPart (tagAt good s i j))
+cell-at : (good : Bool) (s : Sentence) (i j : ℕ) → Answers (askRefusals i) (ofSlice (tagAt good s i j))
 unfolding tagAt
-cell-at good s i j = asked-part (not good) _ i _ (serves-tag _ _)
+cell-at good s i j = asked-slice (not good) _ i _ (serves-tag _ _)
 
-text-at : (good : Bool) (s : Sentence) (b e : ℕ) → Answers (askRefusals b) (ofPart (surfaceAt good s b e))
+text-at : (good : Bool) (s : Sentence) (b e : ℕ) → Answers (askRefusals b) (ofSlice (surfaceAt good s b e))
 unfolding surfaceAt
-text-at good s b e = asked-part (not good) _ b _ (serves-bytes _ _)
+text-at good s b e = asked-slice (not good) _ b _ (serves-bytes _ _)
 
 stepped : (r : Record) (d : Buffers) (p : ℕ) → Answers (exactly 13 0 ∷ []) (ofNext (nextOf r d p))
 unfolding nextOf ofNext

@@ -26,19 +26,19 @@ use Rattle.sheet.specs.declared.Answer.{Answer}
 use Rattle.sheet.specs.declared.Answer.the-variants as answer
 use Rattle.sheet.specs.declared.Number.{Number}
 use Rattle.sheet.specs.declared.Number.the-variants as number
-use Rattle.sheet.specs.declared.Part.{Part}
+use Rattle.sheet.specs.declared.Slice.{Slice}
 use Rattle.sheet.specs.Layout.{Buffers, recordOf, roomFor, lay, laid, Holds, spell}
 use Rattle.sheet.specs.Check.{isSheet}
 use Rattle.sheet.proofs.Held.{laid-holds, spelled, holds-once}
 use Rattle.sheet.proofs.Exact.{is-sheet, holds-is, no-sheet}
 use Rattle.sheet.proofs.Look.{bounds}
-use Rattle.lookups.specs.Answers.{startAt, charToStrPos, strToCharPos, boundaryAt, cell, cellStart, tagPart, tagAt, surfacePart, surfaceAt}
-use Rattle.lookups.proofs.Parts.{cell-of-table, positions-back, surface-bytes, surface-fits, cell-here}
+use Rattle.lookups.specs.Answers.{startAt, charToStrPos, strToCharPos, boundaryAt, cell, cellStart, tagSlice, tagAt, surfaceSlice, surfaceAt}
+use Rattle.lookups.proofs.Slices.{cell-of-table, positions-back, surface-bytes, surface-fits, cell-here}
 use Rattle.changes.specs.Changes.{DefaultSet, defaultAnswer}
 use Rattle.changes.proofs.After.{default-holds}
-use Rattle.load.specs.Load.{lacks, readAnswer, readLeaves, ReadDoes}
+use Rattle.read_load.specs.Load.{lacks, readAnswer, readLeaves, ReadDoes}
 use Rattle.read.specs.Read.{updateAnswer, updateLeaves, UpdateDoes}
-use Rattle.load.proofs.Ways.{same-is}
+use Rattle.read_load.proofs.Ways.{same-is}
 use Rattle.tokens.specs.declared.Token.{Token}
 use Rattle.tokens.specs.declared.Next.{Next}
 use Rattle.tokens.specs.declared.Next.the-variants as next
@@ -151,29 +151,29 @@ unfolding boundaryAt verdict if_then_else_
 boundaries r d s i a h k e = e ∙ rw (holds-is r d s h, spelled r d s h, lt-leb (count s - 1) i k)
 
 -- what a tag's part tells, by where its bytes lie
-tells : (t : Tag) (at : ℕ) (bytes : List ℕ) → (at + size t ≤ length bytes) × (take (size t) (drop at bytes) ≡ encodes t) → Tells t bytes (tagPart at t)
-unfolding tagPart
+tells : (t : Tag) (at : ℕ) (bytes : List ℕ) → (at + size t ≤ length bytes) × (take (size t) (drop at bytes) ≡ encodes t) → Tells t bytes (tagSlice at t)
+unfolding tagSlice
 tells [] at bytes h = refl
 tells (c ∷ t) at bytes h =
     let n : at + size (c ∷ t) - at ≡ size (c ∷ t) = omega arith in
     (omega arith, h .0, rw n (h .1))
 
-tags : (r : Record) (d : Buffers) (s : Sentence) (row column : ℕ) (a : Part) → Holds r d s → row < count s → column < s .columns
+tags : (r : Record) (d : Buffers) (s : Sentence) (row column : ℕ) (a : Slice) → Holds r d s → row < count s → column < s .columns
     → a ≡ tagAt (isSheet r d) (spell r d) row column → Tells (getD (getD (table s) row []) column []) (d .tag-bytes-buf) a
 unfolding tagAt verdict if_then_else_
 tags r d s row column a h k l e =
     let n : row < r .n = omega (arith, bounds h) in
-    let f : a ≡ tagPart (cellStart (rows s) row column) (cell s row column) =
+    let f : a ≡ tagSlice (cellStart (rows s) row column) (cell s row column) =
     e ∙ rw (holds-is r d s h, spelled r d s h, lt-leb (count s) row k, lt-leb (s .columns) column l) in
     rw (f, cell-of-table s row column (omega (arith, bounds h)))
     (tells (cell s row column) (cellStart (rows s) row column) (d .tag-bytes-buf) (cell-here h row column n (omega (arith, bounds h))))
 
-surfaces : (r : Record) (d : Buffers) (s : Sentence) (b e : ℕ) (a : Part) → Holds r d s → b < e → e ≤ count s
+surfaces : (r : Record) (d : Buffers) (s : Sentence) (b e : ℕ) (a : Slice) → Holds r d s → b < e → e ≤ count s
     → a ≡ surfaceAt (isSheet r d) (spell r d) b e → Spells (surface s b e) (d .text-buf) a
 unfolding surfaceAt verdict if_then_else_
 surfaces r d s b e a h k l i =
     let n : e ≤ r .n = omega (arith, bounds h) in
-    let f : a ≡ surfacePart s b e = i ∙ rw (holds-is r d s h, spelled r d s h, lt-leb e b k, le-ltb (count s) e l) in
+    let f : a ≡ surfaceSlice s b e = i ∙ rw (holds-is r d s h, spelled r d s h, lt-leb e b k, le-ltb (count s) e l) in
     let g = surface-fits h b e (omega arith) n in
     rw f (g .0, g .1, surface-bytes h b e (omega arith) n)
 

@@ -30,15 +30,15 @@ use Rattle.changes.specs.Changes.{Lays, boundaryAnswer, lackCells, resetAnswer}
 use Rattle.scores.specs.Scores.{scoreAnswer}
 use Rattle.changes.proofs.After.{boundary-holds, reset-holds}
 use Rattle.scores.proofs.After.{predicted-holds}
-use Rattle.fill.specs.Fill.{Same}
-use Rattle.load.specs.Load.{lacks, readAnswer, readLeaves, ReadDoes}
-use Rattle.load.proofs.Ways.{same-self, same-is}
-use Rattle.load.proofs.Laws.{holding}
+use Rattle.read_fill.specs.Fill.{Same}
+use Rattle.read_load.specs.Load.{lacks, readAnswer, readLeaves, ReadDoes}
+use Rattle.read_load.proofs.Ways.{same-self, same-is}
+use Rattle.read_load.proofs.Laws.{holding}
 use Rattle.write.specs.Answers.{writeOrder}
 use Rattle.write.proofs.Laws.{took}
-use Rattle.passage.specs.declared.Converted.{Converted}
-use Rattle.passage.specs.declared.Converted.the-variants as converted
-use Rattle.passage.specs.Between.{Outcome, writes, refuses, formOf, between, overfull, answerOf, outputOf, Converts}
+use Rattle.convert_buffers.specs.declared.Converted.{Converted}
+use Rattle.convert_buffers.specs.declared.Converted.the-variants as converted
+use Rattle.convert_buffers.specs.Between.{Outcome, writes, refuses, formOf, between, overfull, answerOf, outputOf, Converts}
 use Rattle.convert.specs.Convert.{unknownForms, outOfRange, conversion}
 use Rattle.demands.proofs.Demand2.{demand-2}
 use Rattle.demands.specs.Demand3.{Spelt, Respelt, Changed, boundary-set, tags-reset, predicted, Tokenwise, Demand3}

@@ -24,7 +24,7 @@ use Rattle.sheet.specs.declared.Answer.{Answer}
 use Rattle.sheet.specs.declared.Answer.the-variants as answer
 use Rattle.sheet.specs.declared.Number.{Number}
 use Rattle.sheet.specs.declared.Number.the-variants as number
-use Rattle.sheet.specs.declared.Part.{Part}
+use Rattle.sheet.specs.declared.Slice.{Slice}
 use Rattle.sheet.specs.Layout.{Buffers, recordOf, tagsOf, cellsOf, bytesOf, roomFor, Holds, spell}
 use Rattle.sheet.specs.Check.{inLimits, isLaid, isSheet}
 use Rattle.sheet.specs.Listed.{rowEnds, tagEnds, Lists}
@@ -34,15 +34,15 @@ use Rattle.sheet.proofs.Look.{bounds, cell-start-is, cell-fits, neither}
 use Rattle.sheet.proofs.Listed.{same-spelled}
 use Rattle.lookups.specs.Answers.{cell}
 use Rattle.lookups.proofs.Laws.{cell-length-at}
-use Rattle.lookups.proofs.Parts.{cell-of-table}
+use Rattle.lookups.proofs.Slices.{cell-of-table}
 use Rattle.changes.specs.Changes.{lackCells, resetAnswer, TagsReset}
-use Rattle.load.specs.Load.{ReadDoes}
+use Rattle.read_load.specs.Load.{ReadDoes}
 use Rattle.tokens.specs.declared.Token.{Token}
 use Rattle.tokens.specs.Steps.{spanOf, nextOf, listOrder, countOf, Listed}
 use Rattle.write.specs.Answers.{writeOrder, Written, noRange, withholdOrder, Withholds, keyOrder, Keyed}
-use Rattle.passage.specs.declared.Converted.{Converted}
-use Rattle.passage.specs.declared.Converted.the-variants as converted
-use Rattle.passage.specs.Between.{writes, refuses, formOf, overfull, between, answerOf, outputOf, Converts}
+use Rattle.convert_buffers.specs.declared.Converted.{Converted}
+use Rattle.convert_buffers.specs.declared.Converted.the-variants as converted
+use Rattle.convert_buffers.specs.Between.{writes, refuses, formOf, overfull, between, answerOf, outputOf, Converts}
 use Rattle.convert.specs.Convert.{unknownForms, outOfRange, conversion}
 use Rattle.demands.specs.Demand2.{Taken}
 use Rattle.demands.specs.Padded.{Puts, ToldOf, listedOf, PaddedTable}

@@ -9,7 +9,7 @@ use Rattle.sheet.specs.declared.Number.{Number}
 use Rattle.sheet.specs.declared.Answer.the-variants as answer
 use Rattle.sheet.specs.declared.Number.the-variants as number
 use Rattle.sheet.specs.Layout.{Buffers, Sheet}
-use Rattle.load.specs.Load.{ReadDoes}
+use Rattle.read_load.specs.Load.{ReadDoes}
 
 -- what a contract ties together: record and buffers, the output before the call, the answer, and the output after it
 abbrev pub Contract : Type 1

@@ -1,6 +1,7 @@
 -- Demand 1: every public entry takes any bytes and numbers, ends, and serves or refuses by a number at a place; a refused call alters nothing
 -- lent to it. That a call ends belongs to every contract; each row says the rest of one entry, of every outcome that meets its contract.
 use Prim.Native.Nat.{ℕ, _+_, _≤_, _<_}
+use Prim.Native.Char.{code as chr}
 use mathlib.Core.Path.{_≡_}
 use mathlib.Core.Logic.{_↔_, _⊎_}
 use mathlib.Core.Bool.{Bool, true, false, _&&_, _||_}
@@ -21,23 +22,23 @@ use Rattle.sheet.specs.declared.Answer.{Answer}
 use Rattle.sheet.specs.declared.Answer.the-variants as answer
 use Rattle.sheet.specs.declared.Number.{Number}
 use Rattle.sheet.specs.declared.Number.the-variants as number
-use Rattle.sheet.specs.declared.Part.{Part}
-use Rattle.sheet.specs.declared.Part.the-variants as part
+use Rattle.sheet.specs.declared.Slice.{Slice}
+use Rattle.sheet.specs.declared.Slice.the-variants as slice
 use Rattle.sheet.specs.Layout.{Buffers, laid, spell, Sheet}
 use Rattle.sheet.specs.Check.{isSheet}
 use Rattle.lookups.specs.Answers.{charToStrPos, strToCharPos, boundaryAt, tagAt, surfaceAt}
 use Rattle.changes.specs.Changes.{DefaultSet, BoundarySet, TagsReset}
 use Rattle.scores.specs.Scores.{Predicted}
-use Rattle.load.specs.Load.{lacks, ReadDoes}
+use Rattle.read_load.specs.Load.{lacks, ReadDoes}
 use Rattle.read.specs.Read.{UpdateDoes}
 use Rattle.tokens.specs.declared.Token.{Token}
 use Rattle.tokens.specs.declared.Next.{Next}
 use Rattle.tokens.specs.declared.Next.the-variants as next
 use Rattle.tokens.specs.Steps.{tokensOf, nextOf, Listed}
 use Rattle.write.specs.Answers.{lineOf, Written, copyOf, Withholds, keyOf, Keyed}
-use Rattle.passage.specs.declared.Converted.{Converted}
-use Rattle.passage.specs.declared.Converted.the-variants as converted
-use Rattle.passage.specs.Between.{formOf, overfull, Converts}
+use Rattle.convert_buffers.specs.declared.Converted.{Converted}
+use Rattle.convert_buffers.specs.declared.Converted.the-variants as converted
+use Rattle.convert_buffers.specs.Between.{formOf, overfull, Converts}
 use Rattle.convert.specs.Convert.{conversion, codeOf}
 use Rattle.exports.specs.Exports.{readCode, HostReads, numberCode, HostWrites, nearest, HostWithholds, HostKeys, stepCode, HostSteps}
 use Rattle.respelling.specs.Respell.{respell, whole}
@@ -56,10 +57,10 @@ unfoldable pub ofNumber : Number → Said
 ofNumber (number.Is n) = serves
 ofNumber (number.Refused x) = refuses x
 
-unfoldable pub ofPart : Part → Said
-ofPart (part.Bytes b e) = serves
-ofPart part.Absent = serves
-ofPart (part.Refused x) = refuses x
+unfoldable pub ofSlice : Slice → Said
+ofSlice (slice.Bytes b e) = serves
+ofSlice slice.Absent = serves
+ofSlice (slice.Refused x) = refuses x
 
 unfoldable pub ofNext : Next → Said
 ofNext (next.Is s) = serves
@@ -104,7 +105,7 @@ Blanked qs (refuses x) d e = (oneOf qs x ≡ true) × (e ≡ (if lacks d blank t
 unfoldable pub formRefusals : Form → List ℕ → List Allowed
 formRefusals raw x = exactly 3 (length x) ∷ at-byte 4 0 x ∷ []
 formRefusals tokenized x =
-    exactly 3 (length x) ∷ at-byte 4 0 x ∷ at-byte 5 32 x ∷ at-byte 6 32 x ∷ at-byte 7 47 x ∷ exactly 8 (length x) ∷ []
+    exactly 3 (length x) ∷ at-byte 4 0 x ∷ at-byte 5 (chr " ") x ∷ at-byte 6 (chr " ") x ∷ at-byte 7 (chr "/") x ∷ exactly 8 (length x) ∷ []
 formRefusals partial x = exactly 3 (length x) ∷ at-byte 4 0 x ∷ inside 9 x ∷ exactly 10 (length x) ∷ []
 
 -- a line over 4,096 bytes is refused by 1 at 4096; one that is not UTF-8 by 2 at the end of its longest valid prefix; any other by its form
@@ -188,15 +189,15 @@ pub record Demand1 : Type 0 where
       → Answers (askRefusals p) (ofNumber a)
   pub boundary : (r : Record) (d : Buffers) (i : ℕ) (a : Number) → a ≡ boundaryAt (isSheet r d) (spell r d) i
       → Answers (askRefusals i) (ofNumber a)
-  pub tag : (r : Record) (d : Buffers) (row column : ℕ) (a : Part) → a ≡ tagAt (isSheet r d) (spell r d) row column
-      → Answers (askRefusals row) (ofPart a)
-  pub surface : (r : Record) (d : Buffers) (b e : ℕ) (a : Part) → a ≡ surfaceAt (isSheet r d) (spell r d) b e
-      → Answers (askRefusals b) (ofPart a)
+  pub tag : (r : Record) (d : Buffers) (row column : ℕ) (a : Slice) → a ≡ tagAt (isSheet r d) (spell r d) row column
+      → Answers (askRefusals row) (ofSlice a)
+  pub surface : (r : Record) (d : Buffers) (b e : ℕ) (a : Slice) → a ≡ surfaceAt (isSheet r d) (spell r d) b e
+      → Answers (askRefusals b) (ofSlice a)
   -- an answered part lies within the slice that it is of
-  pub tag-within : (r : Record) (d : Buffers) (row column : ℕ) (a : Part) (b e : ℕ) → a ≡ tagAt (isSheet r d) (spell r d) row column
-      → a ≡ part.Bytes b e → (b ≤ e) × (e ≤ length (d .tag-bytes-buf))
-  pub surface-within : (r : Record) (d : Buffers) (i j : ℕ) (a : Part) (b e : ℕ) → a ≡ surfaceAt (isSheet r d) (spell r d) i j
-      → a ≡ part.Bytes b e → (b ≤ e) × (e ≤ length (d .text-buf))
+  pub tag-within : (r : Record) (d : Buffers) (row column : ℕ) (a : Slice) (b e : ℕ) → a ≡ tagAt (isSheet r d) (spell r d) row column
+      → a ≡ slice.Bytes b e → (b ≤ e) × (e ≤ length (d .tag-bytes-buf))
+  pub surface-within : (r : Record) (d : Buffers) (i j : ℕ) (a : Slice) (b e : ℕ) → a ≡ surfaceAt (isSheet r d) (spell r d) i j
+      → a ≡ slice.Bytes b e → (b ≤ e) × (e ≤ length (d .text-buf))
   -- the changes and the boundary decision
   pub set-default : (d e : Buffers) (a : Answer) → DefaultSet d a e → Settled (exactly 15 0 ∷ []) (ofAnswer a) d e
   pub set-boundary : (r : Record) (d e : Buffers) (i v : ℕ) (a : Answer) → BoundarySet r d i v a e → Settled (askRefusals i) (ofAnswer a) d e

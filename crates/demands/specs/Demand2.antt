@@ -22,12 +22,12 @@ use Rattle.sheet.specs.declared.Answer.{Answer}
 use Rattle.sheet.specs.declared.Answer.the-variants as answer
 use Rattle.sheet.specs.declared.Number.{Number}
 use Rattle.sheet.specs.declared.Number.the-variants as number
-use Rattle.sheet.specs.declared.Part.{Part}
-use Rattle.sheet.specs.declared.Part.the-variants as part
+use Rattle.sheet.specs.declared.Slice.{Slice}
+use Rattle.sheet.specs.declared.Slice.the-variants as slice
 use Rattle.sheet.specs.Layout.{Buffers, recordOf, roomFor, tagsOf, cellsOf, cellStarts, bytesOf, Holds, spell}
 use Rattle.sheet.specs.Check.{isSheet}
 use Rattle.lookups.specs.Answers.{charToStrPos, strToCharPos, boundaryAt, tagAt, surfaceAt}
-use Rattle.load.specs.Load.{ReadDoes}
+use Rattle.read_load.specs.Load.{ReadDoes}
 use Rattle.read.specs.Read.{UpdateDoes}
 use Rattle.tokens.specs.declared.Token.{Token}
 use Rattle.tokens.specs.declared.Next.{Next}
@@ -59,14 +59,14 @@ pub data Writes (f : Form) (r : Record) (d : Buffers) (out : List ℕ) (a : Numb
   its-line : (s : Sentence) → Holds r d s → needed f s ≤ length out → a ≡ number.Is (needed f s) → out′ ≡ over (written f s) out → Writes f r d out a out′
 
 -- a part of a slice, within it, that is the encoding of these characters
-abbrev pub Spells : List ℕ → List ℕ → Part → Type 0
-Spells cs bytes (part.Bytes b e) = (b ≤ e) × (e ≤ length bytes) × (take (e - b) (drop b bytes) ≡ encodes cs)
-Spells cs bytes part.Absent = ⊥
-Spells cs bytes (part.Refused x) = ⊥
+abbrev pub Spells : List ℕ → List ℕ → Slice → Type 0
+Spells cs bytes (slice.Bytes b e) = (b ≤ e) × (e ≤ length bytes) × (take (e - b) (drop b bytes) ≡ encodes cs)
+Spells cs bytes slice.Absent = ⊥
+Spells cs bytes (slice.Refused x) = ⊥
 
 -- a tag's part: absent exactly where the tag is empty
-abbrev pub Tells : Tag → List ℕ → Part → Type 0
-Tells [] bytes a = a ≡ part.Absent
+abbrev pub Tells : Tag → List ℕ → Slice → Type 0
+Tells [] bytes a = a ≡ slice.Absent
 Tells (c ∷ t) bytes a = Spells (c ∷ t) bytes a
 
 pub record Demand2 : Type 0 where
@@ -103,9 +103,9 @@ pub record Demand2 : Type 0 where
   pub boundaries : (r : Record) (d : Buffers) (s : Sentence) (i : ℕ) (a : Number) → Holds r d s → i < count s - 1
       → a ≡ boundaryAt (isSheet r d) (spell r d) i → a ≡ number.Is (code (getD (marks s) i none))
   -- the tag of a cell of the Rust's padded table, and the surface of the characters from b up to e
-  pub tags : (r : Record) (d : Buffers) (s : Sentence) (row column : ℕ) (a : Part) → Holds r d s → row < count s → column < s .columns
+  pub tags : (r : Record) (d : Buffers) (s : Sentence) (row column : ℕ) (a : Slice) → Holds r d s → row < count s → column < s .columns
       → a ≡ tagAt (isSheet r d) (spell r d) row column → Tells (getD (getD (table s) row []) column []) (d .tag-bytes-buf) a
-  pub surfaces : (r : Record) (d : Buffers) (s : Sentence) (b e : ℕ) (a : Part) → Holds r d s → b < e → e ≤ count s
+  pub surfaces : (r : Record) (d : Buffers) (s : Sentence) (b e : ℕ) (a : Slice) → Holds r d s → b < e → e ≤ count s
       → a ≡ surfaceAt (isSheet r d) (spell r d) b e → Spells (surface s b e) (d .text-buf) a
   -- the type of every number by the 18 ranges, which are sorted, and the tables of those below 65,536
   pub get-type : (c a : ℕ) → a ≡ typeOf c → a ≡ find ranges c

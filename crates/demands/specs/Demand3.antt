@@ -17,11 +17,11 @@ use Rattle.sheet.specs.declared.Number.the-variants as number
 use Rattle.sheet.specs.Layout.{Buffers, recordOf, roomFor, Holds, markOf}
 use Rattle.changes.specs.Changes.{BoundarySet, TagsReset}
 use Rattle.scores.specs.Scores.{Predicted}
-use Rattle.load.specs.Load.{ReadDoes}
+use Rattle.read_load.specs.Load.{ReadDoes}
 use Rattle.write.specs.Answers.{Written}
-use Rattle.passage.specs.declared.Converted.{Converted}
-use Rattle.passage.specs.declared.Converted.the-variants as converted
-use Rattle.passage.specs.Between.{formOf, Converts}
+use Rattle.convert_buffers.specs.declared.Converted.{Converted}
+use Rattle.convert_buffers.specs.declared.Converted.the-variants as converted
+use Rattle.convert_buffers.specs.Between.{formOf, Converts}
 use Rattle.convert.specs.Convert.{conversion}
 
 -- writing the record r and the buffers d in the form g puts w at the front of an output, by the writers' contract

@@ -19,21 +19,21 @@ use Rattle.sheet.specs.declared.Answer.{Answer}
 use Rattle.sheet.specs.declared.Answer.the-variants as answer
 use Rattle.sheet.specs.declared.Number.{Number}
 use Rattle.sheet.specs.declared.Number.the-variants as number
-use Rattle.sheet.specs.declared.Part.{Part}
+use Rattle.sheet.specs.declared.Slice.{Slice}
 use Rattle.sheet.specs.Layout.{Buffers, recordOf, tagsOf, cellsOf, bytesOf, laid, roomFor, Holds, spell}
 use Rattle.sheet.specs.Check.{isSheet}
 use Rattle.sheet.specs.Listed.{rowEnds, tagEnds, Lists, spellListed}
 use Rattle.lookups.specs.Answers.{charToStrPos, strToCharPos, boundaryAt, tagAt, surfaceAt}
 use Rattle.changes.specs.Changes.{TagsReset}
-use Rattle.load.specs.Load.{ReadDoes}
+use Rattle.read_load.specs.Load.{ReadDoes}
 use Rattle.tokens.specs.declared.Token.{Token}
 use Rattle.tokens.specs.declared.Next.{Next}
 use Rattle.tokens.specs.declared.Next.the-variants as next
 use Rattle.tokens.specs.Steps.{spanOf, stepOf, nextOf, Listed}
 use Rattle.write.specs.Answers.{Written, noRange, Withholds, Keyed}
-use Rattle.passage.specs.declared.Converted.{Converted}
-use Rattle.passage.specs.declared.Converted.the-variants as converted
-use Rattle.passage.specs.Between.{formOf, Converts}
+use Rattle.convert_buffers.specs.declared.Converted.{Converted}
+use Rattle.convert_buffers.specs.declared.Converted.the-variants as converted
+use Rattle.convert_buffers.specs.Between.{formOf, Converts}
 use Rattle.convert.specs.Convert.{unknownForms, outOfRange, conversion}
 
 -- what a call does that has w to put at the front of a list: 12 at its length where there is less room, else all of it
@@ -46,8 +46,8 @@ pub record ToldOf (r : Record) (d : Buffers) (t : Sentence) : Type 0 where
   pub char-to-str-pos : (i : ℕ) (a : Number) → a ≡ charToStrPos (isSheet r d) (spell r d) i → a ≡ charToStrPos true t i
   pub str-to-char-pos : (p : ℕ) (a : Number) → a ≡ strToCharPos (isSheet r d) (spell r d) p → a ≡ strToCharPos true t p
   pub boundary : (i : ℕ) (a : Number) → a ≡ boundaryAt (isSheet r d) (spell r d) i → a ≡ boundaryAt true t i
-  pub tag : (row column : ℕ) (a : Part) → a ≡ tagAt (isSheet r d) (spell r d) row column → a ≡ tagAt true t row column
-  pub surface : (b e : ℕ) (a : Part) → a ≡ surfaceAt (isSheet r d) (spell r d) b e → a ≡ surfaceAt true t b e
+  pub tag : (row column : ℕ) (a : Slice) → a ≡ tagAt (isSheet r d) (spell r d) row column → a ≡ tagAt true t row column
+  pub surface : (b e : ℕ) (a : Slice) → a ≡ surfaceAt (isSheet r d) (spell r d) b e → a ≡ surfaceAt true t b e
   pub next-token : (p : ℕ) (a : Next) → a ≡ nextOf r d p → a ≡ next.Is (stepOf (nextToken (marks t) (count t) p))
   pub token-list : (l l′ : List Token) (a : Number) → Listed r d l a l′ → Puts (map spanOf (tokensFrom (marks t) 0)) l a l′
   pub line : (f : Form) (out out′ : List ℕ) (a : Number) → Written f r d out a out′ → Puts (written f t) out a out′

@@ -22,15 +22,15 @@ use Rattle.sheet.specs.declared.Answer.{Answer}
 use Rattle.sheet.specs.declared.Answer.the-variants as answer
 use Rattle.sheet.specs.declared.Number.{Number}
 use Rattle.sheet.specs.declared.Number.the-variants as number
-use Rattle.load.specs.Load.{lacks, readAnswer, ReadDoes}
-use Rattle.partial.proofs.Count.{line-few}
-use Rattle.partial.proofs.Widest.{columns-few}
+use Rattle.read_load.specs.Load.{lacks, readAnswer, ReadDoes}
+use Rattle.write_partial.proofs.Count.{line-few}
+use Rattle.write_partial.proofs.Widest.{columns-few}
 use Rattle.write.specs.Answers.{lineOf, writeOrder, Written, copyOf, keyOf, keyOrder, Keyed}
 use Rattle.tokens.specs.Steps.{nextOf}
 use Rattle.tokens.specs.declared.Next.{Next}
 use Rattle.tokens.specs.declared.Next.the-variants as next
-use Rattle.passage.specs.Between.{Outcome, refuses, formOf, between, answerOf, outputOf}
-use Rattle.passage.specs.declared.Converted.the-variants as converted
+use Rattle.convert_buffers.specs.Between.{Outcome, refuses, formOf, between, answerOf, outputOf}
+use Rattle.convert_buffers.specs.declared.Converted.the-variants as converted
 use Rattle.convert.specs.Convert.{unknownForms, outOfRange, conversion}
 use Rattle.convert.proofs.Lengths.{written-small}
 use Rattle.convert.proofs.Codes.{small-place}

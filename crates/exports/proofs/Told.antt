@@ -21,8 +21,8 @@ use Rattle.sheet.specs.declared.Answer.{Answer}
 use Rattle.sheet.specs.declared.Answer.the-variants as answer
 use Rattle.sheet.specs.declared.Number.{Number}
 use Rattle.sheet.specs.declared.Number.the-variants as number
-use Rattle.load.specs.Load.{readAnswer, ReadDoes}
-use Rattle.load.proofs.Ways.{same-self}
+use Rattle.read_load.specs.Load.{readAnswer, ReadDoes}
+use Rattle.read_load.proofs.Ways.{same-self}
 use Rattle.write.specs.Answers.{Written, copyOf, noRange, withholdOrder, Withholds, Keyed}
 use Rattle.tokens.specs.Steps.{nextOf}
 use Rattle.tokens.specs.declared.Token.{Token as Span}
@@ -30,8 +30,8 @@ use Rattle.tokens.specs.declared.Step.{Step}
 use Rattle.tokens.specs.declared.Step.the-variants.{Serves, Done}
 use Rattle.tokens.specs.declared.Next.{Next}
 use Rattle.tokens.specs.declared.Next.the-variants as next
-use Rattle.passage.specs.Between.{formOf}
-use Rattle.passage.proofs.Written.{is-partial}
+use Rattle.convert_buffers.specs.Between.{formOf}
+use Rattle.convert_buffers.proofs.Written.{is-partial}
 use Rattle.exports.proofs.Places.{nearest-length}
 use Rattle.exports.specs.Exports.{refusalCode, noReader, numbersOf, readFirst, readCode, readNumbers, ReadTold, hostAnswer, hostLeaves, HostReads, noWriter, hostWriteOrder, numberCode, HostWrites, nearest, nearestIn, hostWithholdOrder, HostWithholds, HostKeys, spanned, stepCode, stepSpan, Tells, HostSteps}
 

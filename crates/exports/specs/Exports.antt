@@ -18,16 +18,16 @@ use Rattle.sheet.specs.declared.Answer.{Answer}
 use Rattle.sheet.specs.declared.Answer.the-variants as answer
 use Rattle.sheet.specs.declared.Number.{Number}
 use Rattle.sheet.specs.declared.Number.the-variants as number
-use Rattle.fill.specs.Fill.{Same}
-use Rattle.load.specs.Load.{readAnswer, readLeaves}
+use Rattle.read_fill.specs.Fill.{Same}
+use Rattle.read_load.specs.Load.{readAnswer, readLeaves}
 use Rattle.write.specs.Answers.{lineOf, writeOrder, copyOf, noRange, keyOf, keyOrder}
 use Rattle.tokens.specs.Steps.{nextOf}
 use Rattle.tokens.specs.declared.Step.{Step}
 use Rattle.tokens.specs.declared.Step.the-variants.{Serves, Done}
 use Rattle.tokens.specs.declared.Next.{Next}
 use Rattle.tokens.specs.declared.Next.the-variants as next
-use Rattle.passage.specs.Between.{formOf}
-use Rattle.passage.specs.declared.Converted.the-variants as converted
+use Rattle.convert_buffers.specs.Between.{formOf}
+use Rattle.convert_buffers.specs.declared.Converted.the-variants as converted
 use Rattle.convert.specs.Convert.{codeOf}
 
 -- a refusal as the host's number, as a conversion has it

@@ -1,6 +1,6 @@
 // The host's calls besides the conversion: a line read into lent buffers, a sheet written, its withheld copy, its key, a step of the token cursor. Each
 // answers one number; a refusal is 2^63 plus 256 times its place plus its number.
-use reader::Form;
+use read_state::Form;
 use sentence::Refusal;
 use sheet::Answer;
 use sheet::Number;
@@ -12,12 +12,13 @@ ghost use mathlib.Core.Bool.{false};
 ghost use Prim.Native.Nat.{_≤_};
 ghost use lib.ListN.{length};
 ghost use Rattle.laws.specs.Put.{over};
-ghost use Rattle.sheet.specs.Layout.{buffers};
-ghost use Rattle.reader.specs.Flags as flags;
+ghost use Rattle.sheet.specs.Layout.{lentAfter, lentBefore};
+ghost use Rattle.read_state.specs.Flags as flags;
 ghost use Rattle.tokens.specs.declared.Next.the-variants.{Is};
-ghost use Rattle.passage.specs.Between.{formOf};
+ghost use Rattle.convert_buffers.specs.Between.{formOf};
 ghost use Rattle.write.specs.Answers.{Written};
-ghost use Rattle.exports.specs.Exports.{refusalCode, Near, noReader, numbersOf, ReadTold, NearAnswer, HostReads, recordIn, noWriter, numberCode, NearNumber, HostWrites, nearest, nearestIn, HostWithholds, HostKeys, Tells, NearNext, HostSteps};
+ghost use Rattle.exports.specs.Exports.{refusalCode, Near, noReader, numbersOf, ReadTold, NearAnswer, HostReads, recordIn, noWriter, numberCode};
+ghost use Rattle.exports.specs.Exports.{NearNumber, HostWrites, nearest, nearestIn, HostWithholds, HostKeys, Tells, NearNext, HostSteps};
 
 // A refusal as one number.
 fn code(r: Refusal) -> u64
@@ -96,7 +97,8 @@ pub extern "C" fn ighdelmur_read(
     tag_bytes: &mut [u8],
     numbers: &mut [u64],
 ) -> u64
-    ensures { λ a. ⌜ HostReads form (now (line .entry)) (buffers (now (text .entry)) (now (types .entry)) (now (boundaries .entry)) (now («char_pos» .entry)) (now («byte_pos» .entry)) (now («cell_starts» .entry)) (now («cell_lengths» .entry)) (now («tag_bytes» .entry))) (now (numbers .entry)) a (buffers (now (text .exit)) (now (types .exit)) (now (boundaries .exit)) (now («char_pos» .exit)) (now («byte_pos» .exit)) (now («cell_starts» .exit)) (now («cell_lengths» .exit)) (now («tag_bytes» .exit))) (now (numbers .exit)) ⌝ }
+    ensures { λ a. ⌜ HostReads form (now (line .entry)) (lentBefore text types boundaries «char_pos» «byte_pos» «cell_starts» «cell_lengths» «tag_bytes»)
+        (now (numbers .entry)) a (lentAfter text types boundaries «char_pos» «byte_pos» «cell_starts» «cell_lengths» «tag_bytes») (now (numbers .exit)) ⌝ }
 {
     if no_reader(form) {
         return code(Refusal {
@@ -110,7 +112,7 @@ pub extern "C" fn ighdelmur_read(
             place: 0,
         });
     }
-    let answer = load::load(
+    let answer = read_load::load(
         form_of(form),
         line,
         text,
@@ -140,7 +142,8 @@ fn write_as(
     out: &mut [u8],
 ) -> Number
     requires { ⌜ noWriter form ≡ false ⌝ }
-    ensures { λ a. ⌜ Written (formOf form) r (buffers (now (text .entry)) (now (types .entry)) (now (boundaries .entry)) (now («char_pos» .entry)) (now («byte_pos» .entry)) (now («cell_starts» .entry)) (now («cell_lengths» .entry)) (now («tag_bytes» .entry))) (now (out .entry)) a (now (out .exit)) ⌝ }
+    ensures { λ a. ⌜ Written (formOf form) r (lentBefore text types boundaries «char_pos» «byte_pos» «cell_starts» «cell_lengths» «tag_bytes»)
+        (now (out .entry)) a (now (out .exit)) ⌝ }
 {
     if form == 1 {
         return write::write_tokenized_text(
@@ -200,7 +203,8 @@ pub extern "C" fn ighdelmur_write(
     tag_bytes: &[u8],
     out: &mut [u8],
 ) -> u64
-    ensures { λ a. ⌜ HostWrites form (recordIn n b columns cells g) (buffers (now (text .entry)) (now (types .entry)) (now (boundaries .entry)) (now («char_pos» .entry)) (now («byte_pos» .entry)) (now («cell_starts» .entry)) (now («cell_lengths» .entry)) (now («tag_bytes» .entry))) (now (out .entry)) a (now (out .exit)) ⌝ }
+    ensures { λ a. ⌜ HostWrites form (recordIn n b columns cells g)
+        (lentBefore text types boundaries «char_pos» «byte_pos» «cell_starts» «cell_lengths» «tag_bytes») (now (out .entry)) a (now (out .exit)) ⌝ }
 {
     if no_writer(form) {
         return code(Refusal {
@@ -274,7 +278,9 @@ pub extern "C" fn ighdelmur_withhold(
     end: usize,
     out: &mut [u8],
 ) -> u64
-    ensures { λ a. ⌜ HostWithholds (recordIn n b columns cells g) (buffers (now (text .entry)) (now (types .entry)) (now (boundaries .entry)) (now («char_pos» .entry)) (now («byte_pos» .entry)) (now («cell_starts» .entry)) (now («cell_lengths» .entry)) (now («tag_bytes» .entry))) start end (now (out .entry)) a (now (out .exit)) ⌝ }
+    ensures { λ a. ⌜ HostWithholds (recordIn n b columns cells g)
+        (lentBefore text types boundaries «char_pos» «byte_pos» «cell_starts» «cell_lengths» «tag_bytes») start end (now (out .entry)) a
+        (now (out .exit)) ⌝ }
 {
     let answer = write::write_withheld_text(
         Record {
@@ -317,7 +323,8 @@ pub extern "C" fn ighdelmur_key(
     tag_bytes: &[u8],
     out: &mut [u8],
 ) -> u64
-    ensures { λ a. ⌜ HostKeys (recordIn n b columns cells g) (buffers (now (text .entry)) (now (types .entry)) (now (boundaries .entry)) (now («char_pos» .entry)) (now («byte_pos» .entry)) (now («cell_starts» .entry)) (now («cell_lengths» .entry)) (now («tag_bytes» .entry))) (now (out .entry)) a (now (out .exit)) ⌝ }
+    ensures { λ a. ⌜ HostKeys (recordIn n b columns cells g)
+        (lentBefore text types boundaries «char_pos» «byte_pos» «cell_starts» «cell_lengths» «tag_bytes») (now (out .entry)) a (now (out .exit)) ⌝ }
 {
     let answer = write::note_key(
         Record {
@@ -394,7 +401,8 @@ pub extern "C" fn ighdelmur_next_token(
     p: usize,
     span: &mut [u64],
 ) -> u64
-    ensures { λ a. ⌜ HostSteps (recordIn n b columns cells g) (buffers (now (text .entry)) (now (types .entry)) (now (boundaries .entry)) (now («char_pos» .entry)) (now («byte_pos» .entry)) (now («cell_starts» .entry)) (now («cell_lengths» .entry)) (now («tag_bytes» .entry))) p (now (span .entry)) a (now (span .exit)) ⌝ }
+    ensures { λ a. ⌜ HostSteps (recordIn n b columns cells g)
+        (lentBefore text types boundaries «char_pos» «byte_pos» «cell_starts» «cell_lengths» «tag_bytes») p (now (span .entry)) a (now (span .exit)) ⌝ }
 {
     let next = tokens::next_token(
         Record {

@@ -1,3 +1,4 @@
 pub mod If
 pub mod Put
 pub mod All
+pub mod Quoted

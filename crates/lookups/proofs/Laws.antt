@@ -19,10 +19,10 @@ use Rattle.sheet.specs.Layout.{Buffers, Holds}
 use Rattle.sheet.specs.declared.Record.{Record}
 use Rattle.sheet.specs.declared.Number.{Number}
 use Rattle.sheet.specs.declared.Number.the-variants as number
-use Rattle.sheet.specs.declared.Part.the-variants as part
+use Rattle.sheet.specs.declared.Slice.the-variants as slice
 use Rattle.sheet.proofs.Held.{length-starts, byte-pos-held}
-use Rattle.sheet.proofs.Look.{part-at, neither, start-is, bounds, char-pos-is, byte-pos-is, byte-pos-small, cell-start-is, cell-length-is, cell-fits, cell-in-row, cell-at}
-use Rattle.lookups.specs.Answers.{startAt, found, strToCharPos, cellStart, tagPart, cell}
+use Rattle.sheet.proofs.Look.{prefix-at, neither, start-is, bounds, char-pos-is, byte-pos-is, byte-pos-small, cell-start-is, cell-length-is, cell-fits, cell-in-row, cell-at}
+use Rattle.lookups.specs.Answers.{startAt, found, strToCharPos, cellStart, tagSlice, cell}
 
 -- ---- a cell that is in the table
 pub in-table : (n row m column : ℕ) → (leb n row || leb m column) ≡ false → (row < n) × (column < m)
@@ -50,12 +50,12 @@ unfolding size
 no-bytes [] h = refl
 no-bytes (c ∷ t) h = absurd (omega (arith, width-small c))
 
-tag-empty : (at : ℕ) (t : Tag) → t ≡ [] → part.Absent ≡ tagPart at t
-unfolding tagPart
+tag-empty : (at : ℕ) (t : Tag) → t ≡ [] → slice.Absent ≡ tagSlice at t
+unfolding tagSlice
 tag-empty at t e = rw e
 
-tag-some : (at : ℕ) (t : Tag) → (size t ≡ 0 → ⊥) → part.Bytes at (at + size t) ≡ tagPart at t
-unfolding tagPart size
+tag-some : (at : ℕ) (t : Tag) → (size t ≡ 0 → ⊥) → slice.Bytes at (at + size t) ≡ tagSlice at t
+unfolding tagSlice size
 tag-some at [] h = absurd (h refl)
 tag-some at (c ∷ t) h = refl
 
@@ -69,7 +69,7 @@ module _ {r : Record} {d : Buffers} {s : Sentence} (h : Holds r d s) where
 
   -- the number at a byte
   number-at : (p : ℕ) → p ≤ r .b → getD (d .byte-pos-buf) p 0 ≡ getD (bytePositions (text s)) p 0
-  number-at p k = part-at (byte-pos-held h) p (omega arith)
+  number-at p k = prefix-at (byte-pos-held h) p (omega arith)
 
   -- a byte position is a character's start where that character starts there
   pub pos-found : (p : ℕ) → p ≤ r .b → getD (d .char-pos-buf) (getD (d .byte-pos-buf) p 0) 0 ≡ p
@@ -114,10 +114,10 @@ module _ {r : Record} {d : Buffers} {s : Sentence} (h : Holds r d s) where
         let m : r .n * r .columns ≤ 16777216 = omega (arith, mul-le-mul-right {m = r .n} {n = 4096} (r .columns) (omega arith)) in
         (omega arith, omega arith, omega arith)
 
-    pub tag-absent : getD (d .cell-lengths-buf) (row * r .columns + column) 0 ≡ 0 → part.Absent ≡ tagPart (cellStart (rows s) row column) (cell s row column)
+    pub tag-absent : getD (d .cell-lengths-buf) (row * r .columns + column) 0 ≡ 0 → slice.Absent ≡ tagSlice (cellStart (rows s) row column) (cell s row column)
     tag-absent e = tag-empty _ _ (no-bytes (cell s row column) (sym cell-length-at ∙ e))
 
     pub tag-present : (getD (d .cell-lengths-buf) (row * r .columns + column) 0 ≡ 0 → ⊥)
-        → part.Bytes (getD (d .cell-starts-buf) (row * r .columns + column) 0) (getD (d .cell-starts-buf) (row * r .columns + column) 0 + getD (d .cell-lengths-buf) (row * r .columns + column) 0)
-        ≡ tagPart (cellStart (rows s) row column) (cell s row column)
+        → slice.Bytes (getD (d .cell-starts-buf) (row * r .columns + column) 0) (getD (d .cell-starts-buf) (row * r .columns + column) 0 + getD (d .cell-lengths-buf) (row * r .columns + column) 0)
+        ≡ tagSlice (cellStart (rows s) row column) (cell s row column)
     tag-present e = rw (cell-start-at, cell-length-at) (tag-some _ (cell s row column) (λ z. e (cell-length-at ∙ z)))

@@ -9,8 +9,8 @@ use Rattle.sentence.specs.Sentence.{Tag, none, code, Sentence, text, marks, row
 use Rattle.sentence.specs.Refusals.{verdict, sheetOrder}
 use Rattle.sheet.specs.declared.Number.{Number}
 use Rattle.sheet.specs.declared.Number.the-variants as number
-use Rattle.sheet.specs.declared.Part.{Part}
-use Rattle.sheet.specs.declared.Part.the-variants as part
+use Rattle.sheet.specs.declared.Slice.{Slice}
+use Rattle.sheet.specs.declared.Slice.the-variants as slice
 
 -- the byte position of character i; at N it is B
 abbrev pub startAt : Sentence → ℕ → ℕ
@@ -48,22 +48,22 @@ unfoldable pub cellStart : List (List Tag) → ℕ → ℕ → ℕ
 cellStart rs row column = tagBytes (take row rs) + rowBytes (take column (getD rs row []))
 
 -- the part of a tag that starts at a byte; an absent one has none
-unfoldable pub tagPart : ℕ → Tag → Part
-tagPart at [] = part.Absent
-tagPart at (c ∷ t) = part.Bytes at (at + size (c ∷ t))
+unfoldable pub tagSlice : ℕ → Tag → Slice
+tagSlice at [] = slice.Absent
+tagSlice at (c ∷ t) = slice.Bytes at (at + size (c ∷ t))
 
 -- a cell's row is below N, its column below the columns
-unfoldable pub tagAt : Bool → Sentence → ℕ → ℕ → Part
+unfoldable pub tagAt : Bool → Sentence → ℕ → ℕ → Slice
 tagAt good s row column =
-    verdict part.Refused (sheetOrder (not good) (leb (count s) row || leb (s .columns) column) row false 0)
-    (tagPart (cellStart (rows s) row column) (cell s row column))
+    verdict slice.Refused (sheetOrder (not good) (leb (count s) row || leb (s .columns) column) row false 0)
+    (tagSlice (cellStart (rows s) row column) (cell s row column))
 
 -- the text from the one character's start up to the other's
-abbrev pub surfacePart : Sentence → ℕ → ℕ → Part
-surfacePart s b e = part.Bytes (startAt s b) (startAt s e)
+abbrev pub surfaceSlice : Sentence → ℕ → ℕ → Slice
+surfaceSlice s b e = slice.Bytes (startAt s b) (startAt s e)
 
 -- a surface's start is below its end, and that at most N
-unfoldable pub surfaceAt : Bool → Sentence → ℕ → ℕ → Part
+unfoldable pub surfaceAt : Bool → Sentence → ℕ → ℕ → Slice
 surfaceAt good s b e =
-    verdict part.Refused (sheetOrder (not good) (leb e b || ltb (count s) e) b false 0)
-    (surfacePart s b e)
+    verdict slice.Refused (sheetOrder (not good) (leb e b || ltb (count s) e) b false 0)
+    (surfaceSlice s b e)

@@ -1,14 +1,14 @@
 // Look-ups in a sentence that lies in lent buffers. Each answers 13 where there is no sheet, then 14 where a number is out of range.
 use sentence::Refusal;
 use sheet::Number;
-use sheet::Part;
 use sheet::Record;
+use sheet::Slice;
 ghost use mathlib.Core.Path.{_≡_};
-ghost use Rattle.sheet.specs.Layout.{buffers, spell};
+ghost use Rattle.sheet.specs.Layout.{spell, lentBefore};
 ghost use Rattle.sheet.specs.Check.{isSheet};
 ghost use Rattle.lookups.specs.Answers.{charToStrPos, strToCharPos, boundaryAt, tagAt, surfaceAt};
 
-pub mod given;
+pub mod unchecked;
 
 // The byte position of character i.
 pub fn char_to_str_pos(
@@ -23,7 +23,8 @@ pub fn char_to_str_pos(
     tag_bytes: &[u8],
     i: usize,
 ) -> Number
-    ensures { λ a. ⌜ a ≡ charToStrPos (isSheet r (buffers (now (text .entry)) (now (types .entry)) (now (boundaries .entry)) (now («char_pos» .entry)) (now («byte_pos» .entry)) (now («cell_starts» .entry)) (now («cell_lengths» .entry)) (now («tag_bytes» .entry)))) (spell r (buffers (now (text .entry)) (now (types .entry)) (now (boundaries .entry)) (now («char_pos» .entry)) (now («byte_pos» .entry)) (now («cell_starts» .entry)) (now («cell_lengths» .entry)) (now («tag_bytes» .entry)))) i ⌝ }
+    ensures { λ a. ⌜ a ≡ charToStrPos (isSheet r (lentBefore text types boundaries «char_pos» «byte_pos» «cell_starts» «cell_lengths» «tag_bytes»))
+        (spell r (lentBefore text types boundaries «char_pos» «byte_pos» «cell_starts» «cell_lengths» «tag_bytes»)) i ⌝ }
 {
     if !sheet::check(
         r,
@@ -47,7 +48,7 @@ pub fn char_to_str_pos(
             place: i,
         });
     }
-    let p = given::char_to_str_pos(
+    let p = unchecked::char_to_str_pos(
         r,
         text,
         types,
@@ -75,7 +76,8 @@ pub fn str_to_char_pos(
     tag_bytes: &[u8],
     p: usize,
 ) -> Number
-    ensures { λ a. ⌜ a ≡ strToCharPos (isSheet r (buffers (now (text .entry)) (now (types .entry)) (now (boundaries .entry)) (now («char_pos» .entry)) (now («byte_pos» .entry)) (now («cell_starts» .entry)) (now («cell_lengths» .entry)) (now («tag_bytes» .entry)))) (spell r (buffers (now (text .entry)) (now (types .entry)) (now (boundaries .entry)) (now («char_pos» .entry)) (now («byte_pos» .entry)) (now («cell_starts» .entry)) (now («cell_lengths» .entry)) (now («tag_bytes» .entry)))) p ⌝ }
+    ensures { λ a. ⌜ a ≡ strToCharPos (isSheet r (lentBefore text types boundaries «char_pos» «byte_pos» «cell_starts» «cell_lengths» «tag_bytes»))
+        (spell r (lentBefore text types boundaries «char_pos» «byte_pos» «cell_starts» «cell_lengths» «tag_bytes»)) p ⌝ }
 {
     if !sheet::check(
         r,
@@ -99,7 +101,7 @@ pub fn str_to_char_pos(
             place: p,
         });
     }
-    given::str_to_char_pos(
+    unchecked::str_to_char_pos(
         r,
         text,
         types,
@@ -126,7 +128,8 @@ pub fn boundary(
     tag_bytes: &[u8],
     i: usize,
 ) -> Number
-    ensures { λ a. ⌜ a ≡ boundaryAt (isSheet r (buffers (now (text .entry)) (now (types .entry)) (now (boundaries .entry)) (now («char_pos» .entry)) (now («byte_pos» .entry)) (now («cell_starts» .entry)) (now («cell_lengths» .entry)) (now («tag_bytes» .entry)))) (spell r (buffers (now (text .entry)) (now (types .entry)) (now (boundaries .entry)) (now («char_pos» .entry)) (now («byte_pos» .entry)) (now («cell_starts» .entry)) (now («cell_lengths» .entry)) (now («tag_bytes» .entry)))) i ⌝ }
+    ensures { λ a. ⌜ a ≡ boundaryAt (isSheet r (lentBefore text types boundaries «char_pos» «byte_pos» «cell_starts» «cell_lengths» «tag_bytes»))
+        (spell r (lentBefore text types boundaries «char_pos» «byte_pos» «cell_starts» «cell_lengths» «tag_bytes»)) i ⌝ }
 {
     if !sheet::check(
         r,
@@ -150,7 +153,7 @@ pub fn boundary(
             place: i,
         });
     }
-    let m = given::boundary(
+    let m = unchecked::boundary(
         r,
         text,
         types,
@@ -178,8 +181,9 @@ pub fn tag(
     tag_bytes: &[u8],
     row: usize,
     column: usize,
-) -> Part
-    ensures { λ a. ⌜ a ≡ tagAt (isSheet r (buffers (now (text .entry)) (now (types .entry)) (now (boundaries .entry)) (now («char_pos» .entry)) (now («byte_pos» .entry)) (now («cell_starts» .entry)) (now («cell_lengths» .entry)) (now («tag_bytes» .entry)))) (spell r (buffers (now (text .entry)) (now (types .entry)) (now (boundaries .entry)) (now («char_pos» .entry)) (now («byte_pos» .entry)) (now («cell_starts» .entry)) (now («cell_lengths» .entry)) (now («tag_bytes» .entry)))) row column ⌝ }
+) -> Slice
+    ensures { λ a. ⌜ a ≡ tagAt (isSheet r (lentBefore text types boundaries «char_pos» «byte_pos» «cell_starts» «cell_lengths» «tag_bytes»))
+        (spell r (lentBefore text types boundaries «char_pos» «byte_pos» «cell_starts» «cell_lengths» «tag_bytes»)) row column ⌝ }
 {
     if !sheet::check(
         r,
@@ -192,18 +196,18 @@ pub fn tag(
         cell_lengths,
         tag_bytes,
     ) {
-        return Part::Refused(Refusal {
+        return Slice::Refused(Refusal {
             number: 13,
             place: 0,
         });
     }
     if (row >= r.n) | (column >= r.columns) {
-        return Part::Refused(Refusal {
+        return Slice::Refused(Refusal {
             number: 14,
             place: row,
         });
     }
-    given::tag(
+    unchecked::tag(
         r,
         text,
         types,
@@ -231,8 +235,9 @@ pub fn surface(
     tag_bytes: &[u8],
     start: usize,
     end: usize,
-) -> Part
-    ensures { λ a. ⌜ a ≡ surfaceAt (isSheet r (buffers (now (text .entry)) (now (types .entry)) (now (boundaries .entry)) (now («char_pos» .entry)) (now («byte_pos» .entry)) (now («cell_starts» .entry)) (now («cell_lengths» .entry)) (now («tag_bytes» .entry)))) (spell r (buffers (now (text .entry)) (now (types .entry)) (now (boundaries .entry)) (now («char_pos» .entry)) (now («byte_pos» .entry)) (now («cell_starts» .entry)) (now («cell_lengths» .entry)) (now («tag_bytes» .entry)))) start end ⌝ }
+) -> Slice
+    ensures { λ a. ⌜ a ≡ surfaceAt (isSheet r (lentBefore text types boundaries «char_pos» «byte_pos» «cell_starts» «cell_lengths» «tag_bytes»))
+        (spell r (lentBefore text types boundaries «char_pos» «byte_pos» «cell_starts» «cell_lengths» «tag_bytes»)) start end ⌝ }
 {
     if !sheet::check(
         r,
@@ -245,18 +250,18 @@ pub fn surface(
         cell_lengths,
         tag_bytes,
     ) {
-        return Part::Refused(Refusal {
+        return Slice::Refused(Refusal {
             number: 13,
             place: 0,
         });
     }
     if (start >= end) | (end > r.n) {
-        return Part::Refused(Refusal {
+        return Slice::Refused(Refusal {
             number: 14,
             place: start,
         });
     }
-    given::surface(
+    unchecked::surface(
         r,
         text,
         types,

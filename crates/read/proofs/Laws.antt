@@ -15,9 +15,9 @@ use Rattle.sheet.specs.declared.Answer.the-variants as answer
 use Rattle.sheet.specs.declared.Record.{Record}
 use Rattle.changes.specs.Changes.{defaultAnswer}
 use Rattle.changes.proofs.After.{default-holds}
-use Rattle.load.specs.Load.{lacks, readAnswer}
-use Rattle.load.proofs.Ways.{same-is, order-sentence, order-refused}
-use Rattle.load.proofs.Laws.{Holding, holding}
+use Rattle.read_load.specs.Load.{lacks, readAnswer}
+use Rattle.read_load.proofs.Ways.{same-is, order-sentence, order-refused}
+use Rattle.read_load.proofs.Laws.{Holding, holding}
 use Rattle.read.specs.Read.{updateAnswer, updateLeaves, UpdateDoes}
 
 -- ---- an update of buffers that have the one-blank sentence's room

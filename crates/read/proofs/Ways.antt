@@ -13,9 +13,9 @@ use Rattle.sheet.specs.declared.Answer.{Answer}
 use Rattle.sheet.specs.declared.Answer.the-variants as answer
 use Rattle.sheet.specs.declared.Record.{Record}
 use Rattle.changes.specs.Changes.{defaultAnswer, DefaultSet}
-use Rattle.fill.specs.Fill.{Same}
-use Rattle.load.specs.Load.{lacks, readAnswer, readLeaves, ReadDoes}
-use Rattle.load.proofs.Ways.{same-self, same-is, roomOf, lacking, order-sentence, order-refused}
+use Rattle.read_fill.specs.Fill.{Same}
+use Rattle.read_load.specs.Load.{lacks, readAnswer, readLeaves, ReadDoes}
+use Rattle.read_load.proofs.Ways.{same-self, same-is, roomOf, lacking, order-sentence, order-refused}
 use Rattle.read.specs.Read.{updateAnswer, updateLeaves, UpdateDoes}
 
 -- ---- an update

@@ -6,7 +6,7 @@ use Rattle.sentence.specs.Refusals.{readerOrder, updateOrder}
 use Rattle.sheet.specs.Layout.{Buffers, recordOf, laid}
 use Rattle.sheet.specs.declared.Answer.{Answer}
 use Rattle.sheet.specs.declared.Answer.the-variants as answer
-use Rattle.load.specs.Load.{lacks, Does}
+use Rattle.read_load.specs.Load.{lacks, Does}
 
 -- an update's answer: 15 first; and the buffers, which 15 leaves, and in which any other refusal lays the one-blank sentence down
 unfoldable pub updateAnswer : Result → Buffers → Answer

@@ -1,12 +1,12 @@
 // The readers: a line of each form into eight lent buffers.
-use reader::Form;
+use read_state::Form;
 use sentence::Refusal;
 use sheet::Answer;
 use sheet::Record;
 ghost use Rattle.sentence.specs.Reading.{raw, tokenized, partial, read};
-ghost use Rattle.sheet.specs.Layout.{buffers};
-ghost use Rattle.reader.specs.Flags.{formOf};
-ghost use Rattle.load.specs.Load.{ReadDoes};
+ghost use Rattle.sheet.specs.Layout.{lentAfter, lentBefore};
+ghost use Rattle.read_state.specs.Flags.{formOf};
+ghost use Rattle.read_load.specs.Load.{ReadDoes};
 ghost use Rattle.read.specs.Read.{UpdateDoes};
 
 // The same over a sentence that is there: where the line is refused, the one-blank sentence is laid down.
@@ -22,9 +22,11 @@ fn update(
     cell_lengths: &mut [u16],
     tag_bytes: &mut [u8],
 ) -> Answer
-    ensures { λ r. ⌜ UpdateDoes (read (formOf form) (now (line .entry))) (buffers (now (text .entry)) (now (types .entry)) (now (boundaries .entry)) (now («char_pos» .entry)) (now («byte_pos» .entry)) (now («cell_starts» .entry)) (now («cell_lengths» .entry)) (now («tag_bytes» .entry))) r (buffers (now (text .exit)) (now (types .exit)) (now (boundaries .exit)) (now («char_pos» .exit)) (now («byte_pos» .exit)) (now («cell_starts» .exit)) (now («cell_lengths» .exit)) (now («tag_bytes» .exit))) ⌝ }
+    ensures { λ r. ⌜ UpdateDoes (read (formOf form) (now (line .entry)))
+        (lentBefore text types boundaries «char_pos» «byte_pos» «cell_starts» «cell_lengths» «tag_bytes») r
+        (lentAfter text types boundaries «char_pos» «byte_pos» «cell_starts» «cell_lengths» «tag_bytes») ⌝ }
 {
-    if !load::given::has_room(
+    if !read_load::unchecked::has_room(
         Record {
             n: 1,
             b: 1,
@@ -46,7 +48,7 @@ fn update(
             place: 0,
         });
     }
-    match load::load(
+    match read_load::load(
         form,
         line,
         text,
@@ -87,9 +89,11 @@ pub fn from_raw(
     cell_lengths: &mut [u16],
     tag_bytes: &mut [u8],
 ) -> Answer
-    ensures { λ r. ⌜ ReadDoes (read raw (now (line .entry))) (buffers (now (text .entry)) (now (types .entry)) (now (boundaries .entry)) (now («char_pos» .entry)) (now («byte_pos» .entry)) (now («cell_starts» .entry)) (now («cell_lengths» .entry)) (now («tag_bytes» .entry))) r (buffers (now (text .exit)) (now (types .exit)) (now (boundaries .exit)) (now («char_pos» .exit)) (now («byte_pos» .exit)) (now («cell_starts» .exit)) (now («cell_lengths» .exit)) (now («tag_bytes» .exit))) ⌝ }
+    ensures { λ r. ⌜ ReadDoes (read raw (now (line .entry)))
+        (lentBefore text types boundaries «char_pos» «byte_pos» «cell_starts» «cell_lengths» «tag_bytes») r
+        (lentAfter text types boundaries «char_pos» «byte_pos» «cell_starts» «cell_lengths» «tag_bytes») ⌝ }
 {
-    load::load(
+    read_load::load(
         Form::Raw,
         line,
         text,
@@ -115,9 +119,11 @@ pub fn from_tokenized(
     cell_lengths: &mut [u16],
     tag_bytes: &mut [u8],
 ) -> Answer
-    ensures { λ r. ⌜ ReadDoes (read tokenized (now (line .entry))) (buffers (now (text .entry)) (now (types .entry)) (now (boundaries .entry)) (now («char_pos» .entry)) (now («byte_pos» .entry)) (now («cell_starts» .entry)) (now («cell_lengths» .entry)) (now («tag_bytes» .entry))) r (buffers (now (text .exit)) (now (types .exit)) (now (boundaries .exit)) (now («char_pos» .exit)) (now («byte_pos» .exit)) (now («cell_starts» .exit)) (now («cell_lengths» .exit)) (now («tag_bytes» .exit))) ⌝ }
+    ensures { λ r. ⌜ ReadDoes (read tokenized (now (line .entry)))
+        (lentBefore text types boundaries «char_pos» «byte_pos» «cell_starts» «cell_lengths» «tag_bytes») r
+        (lentAfter text types boundaries «char_pos» «byte_pos» «cell_starts» «cell_lengths» «tag_bytes») ⌝ }
 {
-    load::load(
+    read_load::load(
         Form::Tokenized,
         line,
         text,
@@ -143,9 +149,11 @@ pub fn from_partial_annotation(
     cell_lengths: &mut [u16],
     tag_bytes: &mut [u8],
 ) -> Answer
-    ensures { λ r. ⌜ ReadDoes (read partial (now (line .entry))) (buffers (now (text .entry)) (now (types .entry)) (now (boundaries .entry)) (now («char_pos» .entry)) (now («byte_pos» .entry)) (now («cell_starts» .entry)) (now («cell_lengths» .entry)) (now («tag_bytes» .entry))) r (buffers (now (text .exit)) (now (types .exit)) (now (boundaries .exit)) (now («char_pos» .exit)) (now («byte_pos» .exit)) (now («cell_starts» .exit)) (now («cell_lengths» .exit)) (now («tag_bytes» .exit))) ⌝ }
+    ensures { λ r. ⌜ ReadDoes (read partial (now (line .entry)))
+        (lentBefore text types boundaries «char_pos» «byte_pos» «cell_starts» «cell_lengths» «tag_bytes») r
+        (lentAfter text types boundaries «char_pos» «byte_pos» «cell_starts» «cell_lengths» «tag_bytes») ⌝ }
 {
-    load::load(
+    read_load::load(
         Form::Partial,
         line,
         text,
@@ -171,7 +179,9 @@ pub fn update_raw(
     cell_lengths: &mut [u16],
     tag_bytes: &mut [u8],
 ) -> Answer
-    ensures { λ r. ⌜ UpdateDoes (read raw (now (line .entry))) (buffers (now (text .entry)) (now (types .entry)) (now (boundaries .entry)) (now («char_pos» .entry)) (now («byte_pos» .entry)) (now («cell_starts» .entry)) (now («cell_lengths» .entry)) (now («tag_bytes» .entry))) r (buffers (now (text .exit)) (now (types .exit)) (now (boundaries .exit)) (now («char_pos» .exit)) (now («byte_pos» .exit)) (now («cell_starts» .exit)) (now («cell_lengths» .exit)) (now («tag_bytes» .exit))) ⌝ }
+    ensures { λ r. ⌜ UpdateDoes (read raw (now (line .entry)))
+        (lentBefore text types boundaries «char_pos» «byte_pos» «cell_starts» «cell_lengths» «tag_bytes») r
+        (lentAfter text types boundaries «char_pos» «byte_pos» «cell_starts» «cell_lengths» «tag_bytes») ⌝ }
 {
     update(
         Form::Raw,
@@ -198,7 +208,9 @@ pub fn update_tokenized(
     cell_lengths: &mut [u16],
     tag_bytes: &mut [u8],
 ) -> Answer
-    ensures { λ r. ⌜ UpdateDoes (read tokenized (now (line .entry))) (buffers (now (text .entry)) (now (types .entry)) (now (boundaries .entry)) (now («char_pos» .entry)) (now («byte_pos» .entry)) (now («cell_starts» .entry)) (now («cell_lengths» .entry)) (now («tag_bytes» .entry))) r (buffers (now (text .exit)) (now (types .exit)) (now (boundaries .exit)) (now («char_pos» .exit)) (now («byte_pos» .exit)) (now («cell_starts» .exit)) (now («cell_lengths» .exit)) (now («tag_bytes» .exit))) ⌝ }
+    ensures { λ r. ⌜ UpdateDoes (read tokenized (now (line .entry)))
+        (lentBefore text types boundaries «char_pos» «byte_pos» «cell_starts» «cell_lengths» «tag_bytes») r
+        (lentAfter text types boundaries «char_pos» «byte_pos» «cell_starts» «cell_lengths» «tag_bytes») ⌝ }
 {
     update(
         Form::Tokenized,
@@ -225,7 +237,9 @@ pub fn update_partial_annotation(
     cell_lengths: &mut [u16],
     tag_bytes: &mut [u8],
 ) -> Answer
-    ensures { λ r. ⌜ UpdateDoes (read partial (now (line .entry))) (buffers (now (text .entry)) (now (types .entry)) (now (boundaries .entry)) (now («char_pos» .entry)) (now («byte_pos» .entry)) (now («cell_starts» .entry)) (now («cell_lengths» .entry)) (now («tag_bytes» .entry))) r (buffers (now (text .exit)) (now (types .exit)) (now (boundaries .exit)) (now («char_pos» .exit)) (now («byte_pos» .exit)) (now («cell_starts» .exit)) (now («cell_lengths» .exit)) (now («tag_bytes» .exit))) ⌝ }
+    ensures { λ r. ⌜ UpdateDoes (read partial (now (line .entry)))
+        (lentBefore text types boundaries «char_pos» «byte_pos» «cell_starts» «cell_lengths» «tag_bytes») r
+        (lentAfter text types boundaries «char_pos» «byte_pos» «cell_starts» «cell_lengths» «tag_bytes») ⌝ }
 {
     update(
         Form::Partial,

@@ -28,7 +28,7 @@ fn read_behind(input: &mut [u8], to: usize) -> Call
     let got = libc::read(STDIN_FILENO, &mut input[to..]);
     let error = os::errno();
     let moved = io::count(got, &input[to..]);
-    respelling::given::read_told(got, moved, error)
+    respelling::unchecked::read_told(got, moved, error)
 }
 
 // Writes once some of the bytes given.
@@ -38,7 +38,7 @@ fn write_from(bytes: &[u8]) -> Call
     let got = libc::write(STDOUT_FILENO, bytes);
     let error = os::errno();
     let moved = io::count(got, bytes);
-    respelling::given::write_told(got, moved, error)
+    respelling::unchecked::write_told(got, moved, error)
 }
 
 // Reads once behind what is held, which is moved to the front of the buffer first.
@@ -48,9 +48,9 @@ fn read_some(s: Stand, input: &mut [u8]) -> Stand
     requires { ⌜ 4099 < length (now input) ⌝ }
     ensures { λ r. ⌜ ReadSome s (now (input .entry)) r (now (input .exit)) ⌝ }
 {
-    let m = respelling::given::keep(s, input);
+    let m = respelling::unchecked::keep(s, input);
     let c = read_behind(input, m.to);
-    let r = respelling::given::after_read(m, c, input);
+    let r = respelling::unchecked::after_read(m, c, input);
     if r.failed {
         say_input();
     }
@@ -65,7 +65,7 @@ fn write_some(s: Stand, out: &[u8]) -> Stand
     let put = s.put;
     let wrote = s.wrote;
     let c = write_from(&out[put..wrote]);
-    let r = respelling::given::after_write(s, c);
+    let r = respelling::unchecked::after_write(s, c);
     if r.failed {
         say_output();
     }
@@ -85,7 +85,7 @@ fn turn(s: Stand, input: &mut [u8], out: &mut [u8]) -> Stand
     if s.waits {
         return read_some(s, input);
     }
-    respelling::given::answer(s, input, out)
+    respelling::unchecked::answer(s, input, out)
 }
 
 // Moves until a call has failed, or the input has ended and all is answered and written. A proved loop has to end, and nothing says that the input
@@ -95,9 +95,9 @@ fn run(input: &mut [u8], out: &mut [u8]) -> Stand
     requires { ⌜ 8194 ≤ length (now out) ⌝ }
     ensures { λ r. ⌜ Ended r (now (input .exit)) (now (out .exit)) ⌝ }
 {
-    let mut s = respelling::given::start();
+    let mut s = respelling::unchecked::start();
     let mut turns = u64::MAX;
-    while turns > 0 && respelling::given::goes(s) {
+    while turns > 0 && respelling::unchecked::goes(s) {
         s = turn(s, input, out);
         turns -= 1;
     }

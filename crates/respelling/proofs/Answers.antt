@@ -6,11 +6,11 @@ use mathlib.Core.List.{List, [], _∷_, _++_, append-assoc}
 use lib.ListN.{length, getD, take, drop, set, length-set, length-drop, take-append-drop}
 use lib.Seq.{length-take-le}
 use Rattle.sentence.specs.declared.Refusal.{Refusal}
-use Rattle.passage.specs.Between.{Outcome, writes, refuses, answerOf, outputOf, Converts}
+use Rattle.convert_buffers.specs.Between.{Outcome, writes, refuses, answerOf, outputOf, Converts}
 use Rattle.convert.specs.Convert.{conversion}
-use Rattle.passage.specs.declared.Converted.{Converted}
-use Rattle.passage.specs.declared.Converted.the-variants.{Wrote, Refused}
-use Rattle.passage.proofs.Outcomes.{was-written, was-refused}
+use Rattle.convert_buffers.specs.declared.Converted.{Converted}
+use Rattle.convert_buffers.specs.declared.Converted.the-variants.{Wrote, Refused}
+use Rattle.convert_buffers.proofs.Outcomes.{was-written, was-refused}
 use Rattle.convert.proofs.Placed.{written-fits}
 use Rattle.respelling.specs.Puts.{Puts, Into}
 use Rattle.respelling.specs.Decimal.{decimal}

@@ -4,8 +4,8 @@ use mathlib.Core.Path.{_≡_}
 use mathlib.Core.List.{List, _++_}
 use lib.ListN.{length, take, drop}
 use Rattle.laws.specs.Put.{over}
-use Rattle.passage.specs.Between.{Outcome, answerOf, outputOf}
-use Rattle.passage.specs.declared.Converted.{Converted}
+use Rattle.convert_buffers.specs.Between.{Outcome, answerOf, outputOf}
+use Rattle.convert_buffers.specs.declared.Converted.{Converted}
 
 -- w stands behind the place `at` of what was d, and ends at r; every other byte is as it was
 pub record Puts (w d : List ℕ) (at r : ℕ) (d′ : List ℕ) : Type 0 where

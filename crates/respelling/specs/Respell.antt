@@ -1,18 +1,19 @@
 -- The program: its answer to a line, and to a whole input.
 use Prim.Native.Nat.{ℕ}
+use Prim.Native.Char.{code as chr}
 use mathlib.Core.Bool.{Bool, false, _||_}
 use mathlib.Core.List.{List, [], _∷_, _++_}
 use lib.Dec.{eqb}
 use Rattle.laws.specs.If.{if_then_else_}
 use Rattle.sentence.specs.declared.Refusal.{Refusal}
 use Rattle.sentence.specs.Refusals.{refusal}
-use Rattle.passage.specs.Between.{Outcome, writes, refuses}
+use Rattle.convert_buffers.specs.Between.{Outcome, writes, refuses}
 use Rattle.convert.specs.Convert.{conversion}
 use Rattle.respelling.specs.Decimal.{decimal}
 
 -- the number of a letter's form: R raw, T tokenized, P partial; 3 is no form
 unfoldable pub letter : ℕ → ℕ
-letter b = if eqb b 82 then 0 else if eqb b 84 then 1 else if eqb b 80 then 2 else 3
+letter b = if eqb b (chr "R") then 0 else if eqb b (chr "T") then 1 else if eqb b (chr "P") then 2 else 3
 
 -- what is made of an input line: a reader's letter, a writer's letter, the sentence line; 8,192 bytes are the room for the written line
 unfoldable pub outcome : List ℕ → Outcome
@@ -22,8 +23,8 @@ outcome (a ∷ b ∷ x) = conversion (letter a) (letter b) x 8192 0
 
 -- how it is printed: `=` and the written line, or `!`, number, space and place; then LF
 unfoldable pub printed : Outcome → List ℕ
-printed (writes w) = 61 ∷ (w ++ (10 ∷ []))
-printed (refuses r) = 33 ∷ (decimal (r .number) ++ (32 ∷ (decimal (r .place) ++ (10 ∷ []))))
+printed (writes w) = chr "=" ∷ (w ++ (chr "\n" ∷ []))
+printed (refuses r) = chr "!" ∷ (decimal (r .number) ++ (chr " " ∷ (decimal (r .place) ++ (chr "\n" ∷ []))))
 
 abbrev pub answer : List ℕ → List ℕ
 answer l = printed (outcome l)
@@ -36,7 +37,7 @@ before b (l ∷ ls) = (b ∷ l) ∷ ls
 -- the lines of an input, each ended by LF or by the end; a last LF starts no further line
 unfoldable pub lines : List ℕ → List (List ℕ)
 lines [] = []
-lines (b ∷ s) = if eqb b 10 then [] ∷ lines s else before b (lines s)
+lines (b ∷ s) = if eqb b (chr "\n") then [] ∷ lines s else before b (lines s)
 
 unfoldable pub answers : List (List ℕ) → List ℕ
 answers [] = []
@@ -49,7 +50,7 @@ respell s = answers (lines s)
 -- an LF stands there
 unfoldable pub fed : List ℕ → Bool
 fed [] = false
-fed (b ∷ s) = eqb b 10 || fed s
+fed (b ∷ s) = eqb b (chr "\n") || fed s
 
 -- the lines of an input whose LF is there: the bytes up to the last LF
 unfoldable pub whole : List ℕ → List ℕ

@@ -1,5 +1,6 @@
 -- The program on a piece of input: what is done with it in one call.
 use Prim.Native.Nat.{ℕ, zero, suc, _+_, _-_, _≤_}
+use Prim.Native.Char.{code as chr}
 use mathlib.Core.Path.{_≡_}
 use mathlib.Core.Bool.{Bool, _&&_}
 use mathlib.Core.List.{List, [], _∷_, _++_}
@@ -14,7 +15,7 @@ use Rattle.respelling.specs.declared.Turn.{Turn}
 -- the bytes before the first LF
 unfoldable pub lineLen : List ℕ → ℕ
 lineLen [] = 0
-lineLen (b ∷ s) = if eqb b 10 then 0 else suc (lineLen s)
+lineLen (b ∷ s) = if eqb b (chr "\n") then 0 else suc (lineLen s)
 
 -- what stands behind the first LF
 unfoldable pub pastLine : List ℕ → List ℕ

@@ -1,5 +1,5 @@
 // What the program `respell` does between its calls of the system, on slices.
-pub mod given;
+pub mod unchecked;
 
 // What was done with a piece of input: the bytes used, and the bytes written.
 pub struct Turn {

@@ -2,10 +2,10 @@
 use sentence::Refusal;
 use sheet::Answer;
 use sheet::Record;
-ghost use Rattle.sheet.specs.Layout.{buffers};
+ghost use Rattle.sheet.specs.Layout.{lentBefore, withBoundaries};
 ghost use Rattle.scores.specs.Scores.{Predicted};
 
-pub mod given;
+pub mod unchecked;
 
 // A boundary is a word's where its score is above zero, else none; tags and columns become none.
 pub fn predict(
@@ -20,7 +20,8 @@ pub fn predict(
     tag_bytes: &[u8],
     scores: &[i32],
 ) -> Answer
-    ensures { λ a. ⌜ Predicted r (buffers (now (text .entry)) (now (types .entry)) (now (boundaries .entry)) (now («char_pos» .entry)) (now («byte_pos» .entry)) (now («cell_starts» .entry)) (now («cell_lengths» .entry)) (now («tag_bytes» .entry))) (now (scores .entry)) a (buffers (now (text .entry)) (now (types .entry)) (now (boundaries .exit)) (now («char_pos» .entry)) (now («byte_pos» .entry)) (now («cell_starts» .entry)) (now («cell_lengths» .entry)) (now («tag_bytes» .entry))) ⌝ }
+    ensures { λ a. ⌜ Predicted r (lentBefore text types boundaries «char_pos» «byte_pos» «cell_starts» «cell_lengths» «tag_bytes») (now (scores .entry)) a
+        (withBoundaries (now (boundaries .exit)) (lentBefore text types boundaries «char_pos» «byte_pos» «cell_starts» «cell_lengths» «tag_bytes»)) ⌝ }
 {
     if !sheet::check(
         r,
@@ -44,7 +45,7 @@ pub fn predict(
             place: scores.len(),
         });
     }
-    given::predict(
+    unchecked::predict(
         r,
         text,
         types,

@@ -1,5 +1,6 @@
 -- Reading a line: one reader, a small state that each character steps, for the raw, the tokenized and the partial form.
 use Prim.Native.Nat.{ℕ, zero, suc, _+_, _-_, max}
+use Prim.Native.Char.{code as chr}
 use mathlib.Core.Bool.{Bool, true, false}
 use mathlib.Core.List.{List, [], _∷_, _++_}
 use lib.Dec.{eqb, ltb}
@@ -24,8 +25,8 @@ pub data Kind : Type 0 where
 
 unfoldable pub kinds : Form → List (ℕ × Kind)
 kinds raw = []
-kinds tokenized = (32, mark word) ∷ (47, slash) ∷ (92, back) ∷ []
-kinds partial = (32, mark unknown) ∷ (45, mark none) ∷ (124, mark word) ∷ (47, slash) ∷ (92, back) ∷ []
+kinds tokenized = (chr " ", mark word) ∷ (chr "/", slash) ∷ (chr "\\", back) ∷ []
+kinds partial = (chr " ", mark unknown) ∷ (chr "-", mark none) ∷ (chr "|", mark word) ∷ (chr "/", slash) ∷ (chr "\\", back) ∷ []
 
 unfoldable pub look : List (ℕ × Kind) → ℕ → Kind
 look [] c = plain

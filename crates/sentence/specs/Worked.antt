@@ -3,9 +3,12 @@ use Prim.Native.Nat.{ℕ, zero, suc}
 use mathlib.Core.Path.{_≡_, refl}
 use mathlib.Core.Bool.{Bool, true, false}
 use mathlib.Core.List.{List, [], _∷_, _++_, map}
+use Prim.Native.Char.{code as chr}
 use lib.IntN.{ℤ, pos, negsuc}
 use Rattle.laws.specs.If.{if_then_else_}
+use Rattle.laws.specs.Quoted.{quoted}
 use Rattle.utf8.specs.Utf8.{utf8-2, utf8-3, utf8-4, charOf, walk, wholes, values, width, encode, encodes, size}
+use Rattle.utf8.specs.Text.{text-of}
 use Rattle.types.specs.TypeOf.{find, ranges, typeOf}
 use Rattle.sentence.specs.Sentence.{Tag, Mark, none, word, unknown, code, Cells, final, cell, Sentence, textOf, marksOf, rowsOf, text, marks, rows, count, types, starts, numbers, charPositions, bytePositions, onto, cut, pad}
 use Rattle.sentence.specs.Reading.{Form, raw, tokenized, partial, kind, ordinary, inside, opening, step, advance, unfinished, ending, finish, push, follow, run, before, add, gather, Result, sentence, refused, built, placed, read}
@@ -34,8 +37,8 @@ servedAs (done p) = p ∷ []
 -- tags one after another, each ended by a slash; a row ended by another
 unfoldable pub tagsAs : List (List Tag) → List ℕ
 tagsAs [] = []
-tagsAs ([] ∷ rs) = 47 ∷ tagsAs rs
-tagsAs ((t ∷ ts) ∷ rs) = t ++ (47 ∷ tagsAs (ts ∷ rs))
+tagsAs ([] ∷ rs) = chr "/" ∷ tagsAs rs
+tagsAs ((t ∷ ts) ∷ rs) = t ++ (chr "/" ∷ tagsAs (ts ∷ rs))
 
 -- what a sentence answers
 unfoldable pub told : Ask → Sentence → List ℕ
@@ -72,109 +75,108 @@ case f x a w = record { form = f; bytes = x; ask = a; wanted = w }
 
 pub worked : List Case
 worked =
-    -- raw `aあ`
-    case raw (97 ∷ 0xE3 ∷ 0x81 ∷ 0x82 ∷ []) the-types (2 ∷ 3 ∷ [])
-    ∷ case raw (97 ∷ 0xE3 ∷ 0x81 ∷ 0x82 ∷ []) the-char-positions (0 ∷ 1 ∷ 4 ∷ [])
-    ∷ case raw (97 ∷ 0xE3 ∷ 0x81 ∷ 0x82 ∷ []) the-byte-positions (0 ∷ 1 ∷ 0 ∷ 0 ∷ 2 ∷ [])
-    -- raw, empty
+    -- types and position maps of a raw line
+    case raw (text-of "aあ") the-types (2 ∷ 3 ∷ [])
+    ∷ case raw (text-of "aあ") the-char-positions (0 ∷ 1 ∷ 4 ∷ [])
+    ∷ case raw (text-of "aあ") the-byte-positions (0 ∷ 1 ∷ 0 ∷ 0 ∷ 2 ∷ [])
+    -- no character
     ∷ case raw [] the-refusal (3 ∷ 0 ∷ [])
-    -- T `a\`, T `\`, P `\`
-    ∷ case tokenized (97 ∷ 92 ∷ []) the-text (97 ∷ [])
-    ∷ case tokenized (92 ∷ []) the-refusal (3 ∷ 1 ∷ [])
-    ∷ case partial (92 ∷ []) the-text (92 ∷ [])
-    -- P `a\-b`, T `a /b`, T `a `, P `a-`
-    ∷ case partial (97 ∷ 92 ∷ 45 ∷ 98 ∷ []) the-refusal (9 ∷ 2 ∷ [])
-    ∷ case tokenized (97 ∷ 32 ∷ 47 ∷ 98 ∷ []) the-refusal (7 ∷ 2 ∷ [])
-    ∷ case tokenized (97 ∷ 32 ∷ []) the-refusal (8 ∷ 2 ∷ [])
-    ∷ case partial (97 ∷ 45 ∷ []) the-refusal (10 ∷ 2 ∷ [])
-    -- P `a|b c|d`
-    ∷ case partial (97 ∷ 124 ∷ 98 ∷ 32 ∷ 99 ∷ 124 ∷ 100 ∷ []) the-tokens (0 ∷ 1 ∷ 3 ∷ 4 ∷ [])
-    ∷ case partial (97 ∷ 124 ∷ 98 ∷ 32 ∷ 99 ∷ 124 ∷ 100 ∷ []) (the-line tokenized) (97 ∷ 32 ∷ 100 ∷ [])
-    -- T `a//x b`
-    ∷ case tokenized (97 ∷ 47 ∷ 47 ∷ 120 ∷ 32 ∷ 98 ∷ []) the-columns (2 ∷ [])
-    ∷ case tokenized (97 ∷ 47 ∷ 47 ∷ 120 ∷ 32 ∷ 98 ∷ []) (the-line tokenized) (97 ∷ 47 ∷ 47 ∷ 120 ∷ 32 ∷ 98 ∷ 47 ∷ 47 ∷ [])
-    ∷ case tokenized (97 ∷ 47 ∷ 47 ∷ 120 ∷ 32 ∷ 98 ∷ []) (the-line partial) (97 ∷ 47 ∷ 47 ∷ 120 ∷ 124 ∷ 98 ∷ 47 ∷ 47 ∷ [])
-    -- P `a/-b`
-    ∷ case partial (97 ∷ 47 ∷ 45 ∷ 98 ∷ []) (the-line partial) (97 ∷ 45 ∷ 98 ∷ 47 ∷ [])
-    -- P `a/x-b` loses x in the tokenized form; raw `ab` has no known token
-    ∷ case partial (97 ∷ 47 ∷ 120 ∷ 45 ∷ 98 ∷ []) (the-line tokenized) (97 ∷ 98 ∷ 47 ∷ [])
-    ∷ case raw (97 ∷ 98 ∷ []) (the-line tokenized) []
-    ∷ case raw (97 ∷ 98 ∷ []) the-boundaries (2 ∷ [])
-    -- T `a \`: 8 at 3
-    ∷ case tokenized (97 ∷ 32 ∷ 92 ∷ []) the-refusal (8 ∷ 3 ∷ [])
-    -- T ` a`, T `あ  b`, T `/x`
-    ∷ case tokenized (32 ∷ 97 ∷ []) the-refusal (5 ∷ 0 ∷ [])
-    ∷ case tokenized (0xE3 ∷ 0x81 ∷ 0x82 ∷ 32 ∷ 32 ∷ 98 ∷ []) the-refusal (6 ∷ 4 ∷ [])
-    ∷ case tokenized (47 ∷ 120 ∷ []) the-refusal (7 ∷ 0 ∷ [])
-    -- NUL: raw `aN`, T `a\N`, T `a/N`, P `aN`, P `a/\N`, P `N`
-    ∷ case raw (97 ∷ 0 ∷ []) the-refusal (4 ∷ 1 ∷ [])
-    ∷ case tokenized (97 ∷ 92 ∷ 0 ∷ []) the-refusal (4 ∷ 2 ∷ [])
-    ∷ case tokenized (97 ∷ 47 ∷ 0 ∷ []) the-refusal (4 ∷ 2 ∷ [])
-    ∷ case partial (97 ∷ 0 ∷ []) the-refusal (4 ∷ 1 ∷ [])
-    ∷ case partial (97 ∷ 47 ∷ 92 ∷ 0 ∷ []) the-refusal (4 ∷ 3 ∷ [])
-    ∷ case partial (0 ∷ []) the-refusal (4 ∷ 0 ∷ [])
-    -- mark position: P `ab`, P `あ\/`, P empty, P `a\`
-    ∷ case partial (97 ∷ 98 ∷ []) the-refusal (9 ∷ 1 ∷ [])
-    ∷ case partial (0xE3 ∷ 0x81 ∷ 0x82 ∷ 92 ∷ 47 ∷ []) the-refusal (9 ∷ 4 ∷ [])
+    -- a lone backslash at the end is dropped; where the partial form awaits a character it is one
+    ∷ case tokenized (text-of "a\\") the-text (text-of "a")
+    ∷ case tokenized (text-of "\\") the-refusal (3 ∷ 1 ∷ [])
+    ∷ case partial (text-of "\\") the-text (text-of "\\")
+    -- document 01's refusals: an escape is no mark; a slash where a token begins; a boundary at the end
+    ∷ case partial (text-of "a\\-b") the-refusal (9 ∷ 2 ∷ [])
+    ∷ case tokenized (text-of "a /b") the-refusal (7 ∷ 2 ∷ [])
+    ∷ case tokenized (text-of "a ") the-refusal (8 ∷ 2 ∷ [])
+    ∷ case partial (text-of "a-") the-refusal (10 ∷ 2 ∷ [])
+    -- an unknown boundary: no token is known on its sides
+    ∷ case partial (text-of "a|b c|d") the-tokens (0 ∷ 1 ∷ 3 ∷ 4 ∷ [])
+    ∷ case partial (text-of "a|b c|d") (the-line tokenized) (text-of "a d")
+    -- an absent tag before a present one counts as a column
+    ∷ case tokenized (text-of "a//x b") the-columns (2 ∷ [])
+    ∷ case tokenized (text-of "a//x b") (the-line tokenized) (text-of "a//x b//")
+    ∷ case tokenized (text-of "a//x b") (the-line partial) (text-of "a//x|b//")
+    -- a slash opens a column, and the last character writes it
+    ∷ case partial (text-of "a/-b") (the-line partial) (text-of "a-b/")
+    -- a tag inside a token is lost in the tokenized form; a raw line has no known token
+    ∷ case partial (text-of "a/x-b") (the-line tokenized) (text-of "ab/")
+    ∷ case raw (text-of "ab") (the-line tokenized) []
+    ∷ case raw (text-of "ab") the-boundaries (2 ∷ [])
+    -- the dropped backslash stands behind a space
+    ∷ case tokenized (text-of "a \\") the-refusal (8 ∷ 3 ∷ [])
+    -- places are counted in bytes
+    ∷ case tokenized (text-of " a") the-refusal (5 ∷ 0 ∷ [])
+    ∷ case tokenized (text-of "あ  b") the-refusal (6 ∷ 4 ∷ [])
+    ∷ case tokenized (text-of "/x") the-refusal (7 ∷ 0 ∷ [])
+    -- NUL is refused wherever it stands, escaped, in a tag or first
+    ∷ case raw (text-of "a\0") the-refusal (4 ∷ 1 ∷ [])
+    ∷ case tokenized (text-of "a\\\0") the-refusal (4 ∷ 2 ∷ [])
+    ∷ case tokenized (text-of "a/\0") the-refusal (4 ∷ 2 ∷ [])
+    ∷ case partial (text-of "a\0") the-refusal (4 ∷ 1 ∷ [])
+    ∷ case partial (text-of "a/\\\0") the-refusal (4 ∷ 3 ∷ [])
+    ∷ case partial (text-of "\0") the-refusal (4 ∷ 0 ∷ [])
+    -- the partial form where a mark should be
+    ∷ case partial (text-of "ab") the-refusal (9 ∷ 1 ∷ [])
+    ∷ case partial (text-of "あ\\/") the-refusal (9 ∷ 4 ∷ [])
     ∷ case partial [] the-refusal (3 ∷ 0 ∷ [])
-    ∷ case partial (97 ∷ 92 ∷ []) the-text (97 ∷ [])
-    -- not UTF-8 comes before the first space: T ` ` and a lone lead byte
+    ∷ case partial (text-of "a\\") the-text (text-of "a")
+    -- not UTF-8, a lone lead byte, comes before the first space
     ∷ case tokenized (32 ∷ 0xE3 ∷ 0x81 ∷ []) the-refusal (2 ∷ 1 ∷ [])
-    -- P ` - |/`: characters are taken literally, and written as they are
-    ∷ case partial (32 ∷ 45 ∷ 92 ∷ 124 ∷ 47 ∷ []) the-text (32 ∷ 92 ∷ 47 ∷ [])
-    ∷ case partial (32 ∷ 45 ∷ 92 ∷ 124 ∷ 47 ∷ []) (the-line partial) (32 ∷ 45 ∷ 92 ∷ 124 ∷ 47 ∷ [])
-    ∷ case partial (32 ∷ 45 ∷ 92 ∷ 124 ∷ 47 ∷ []) (the-line tokenized) (92 ∷ 32 ∷ 92 ∷ 92 ∷ 32 ∷ 92 ∷ 47 ∷ [])
-    -- T `a\ b/\/-`: an escaped space is text; the partial form escapes the dash of a tag, the tokenized one does not
-    ∷ case tokenized (97 ∷ 92 ∷ 32 ∷ 98 ∷ 47 ∷ 92 ∷ 47 ∷ 45 ∷ []) the-text (97 ∷ 32 ∷ 98 ∷ [])
-    ∷ case tokenized (97 ∷ 92 ∷ 32 ∷ 98 ∷ 47 ∷ 92 ∷ 47 ∷ 45 ∷ []) (the-line partial) (97 ∷ 45 ∷ 32 ∷ 45 ∷ 98 ∷ 47 ∷ 92 ∷ 47 ∷ 92 ∷ 45 ∷ [])
-    ∷ case tokenized (97 ∷ 92 ∷ 32 ∷ 98 ∷ 47 ∷ 92 ∷ 47 ∷ 45 ∷ []) (the-line tokenized) (97 ∷ 92 ∷ 32 ∷ 98 ∷ 47 ∷ 92 ∷ 47 ∷ 45 ∷ [])
-    -- T `a` and T `a/` differ: no column, one column
-    ∷ case tokenized (97 ∷ []) the-columns (0 ∷ [])
-    ∷ case tokenized (97 ∷ 47 ∷ []) the-columns (1 ∷ [])
-    -- but their keys are one, and so are those of T `a b` and T `a/ b/`
-    ∷ case tokenized (97 ∷ []) the-key (97 ∷ [])
-    ∷ case tokenized (97 ∷ 47 ∷ []) the-key (97 ∷ [])
-    ∷ case tokenized (97 ∷ 32 ∷ 98 ∷ []) the-key (97 ∷ 124 ∷ 98 ∷ [])
-    ∷ case tokenized (97 ∷ 47 ∷ 32 ∷ 98 ∷ 47 ∷ []) the-key (97 ∷ 124 ∷ 98 ∷ [])
-    -- P `a/-b` has the key of P `a-b`, and P `a/|b/`, a line of 5 bytes, a key of 3
-    ∷ case partial (97 ∷ 47 ∷ 45 ∷ 98 ∷ []) the-key (97 ∷ 45 ∷ 98 ∷ [])
-    ∷ case partial (97 ∷ 47 ∷ 124 ∷ 98 ∷ 47 ∷ []) the-key (97 ∷ 124 ∷ 98 ∷ [])
-    -- only columns at the end are cut: P `a//x/|b`; a tag inside a token is one too: P `a/x-b|c`
-    ∷ case partial (97 ∷ 47 ∷ 47 ∷ 120 ∷ 47 ∷ 124 ∷ 98 ∷ []) the-key (97 ∷ 47 ∷ 47 ∷ 120 ∷ 124 ∷ 98 ∷ 47 ∷ 47 ∷ [])
-    ∷ case partial (97 ∷ 47 ∷ 120 ∷ 45 ∷ 98 ∷ 124 ∷ 99 ∷ []) the-key (97 ∷ 47 ∷ 120 ∷ 45 ∷ 98 ∷ 47 ∷ 124 ∷ 99 ∷ 47 ∷ [])
-    -- P `a/x//|b//y c`: a row ends at its last present tag; all columns before a word boundary and at the end, else none that is absent
-    ∷ case partial (97 ∷ 47 ∷ 120 ∷ 47 ∷ 47 ∷ 124 ∷ 98 ∷ 47 ∷ 47 ∷ 121 ∷ 32 ∷ 99 ∷ []) the-columns (3 ∷ [])
-    ∷ case partial (97 ∷ 47 ∷ 120 ∷ 47 ∷ 47 ∷ 124 ∷ 98 ∷ 47 ∷ 47 ∷ 121 ∷ 32 ∷ 99 ∷ []) the-tags (120 ∷ 47 ∷ 47 ∷ 47 ∷ 121 ∷ 47 ∷ 47 ∷ 47 ∷ [])
-    ∷ case partial (97 ∷ 47 ∷ 120 ∷ 47 ∷ 47 ∷ 124 ∷ 98 ∷ 47 ∷ 47 ∷ 121 ∷ 32 ∷ 99 ∷ []) (the-line partial)
-    (97 ∷ 47 ∷ 120 ∷ 47 ∷ 47 ∷ 124 ∷ 98 ∷ 47 ∷ 47 ∷ 121 ∷ 32 ∷ 99 ∷ 47 ∷ 47 ∷ 47 ∷ [])
-    ∷ case partial (97 ∷ 47 ∷ 120 ∷ 47 ∷ 47 ∷ 124 ∷ 98 ∷ 47 ∷ 47 ∷ 121 ∷ 32 ∷ 99 ∷ []) (the-line tokenized) (97 ∷ 47 ∷ 120 ∷ 47 ∷ 47 ∷ [])
-    -- the cursor on P `a b|c-d|e f`: from 0 the first token is skipped; from 1, inside it, a token begins; then to the end, and past it
-    ∷ case partial (97 ∷ 32 ∷ 98 ∷ 124 ∷ 99 ∷ 45 ∷ 100 ∷ 124 ∷ 101 ∷ 32 ∷ 102 ∷ []) (the-token-at 0) (2 ∷ 4 ∷ [])
-    ∷ case partial (97 ∷ 32 ∷ 98 ∷ 124 ∷ 99 ∷ 45 ∷ 100 ∷ 124 ∷ 101 ∷ 32 ∷ 102 ∷ []) (the-token-at 1) (1 ∷ 2 ∷ [])
-    ∷ case partial (97 ∷ 32 ∷ 98 ∷ 124 ∷ 99 ∷ 45 ∷ 100 ∷ 124 ∷ 101 ∷ 32 ∷ 102 ∷ []) (the-token-at 3) (3 ∷ 4 ∷ [])
-    ∷ case partial (97 ∷ 32 ∷ 98 ∷ 124 ∷ 99 ∷ 45 ∷ 100 ∷ 124 ∷ 101 ∷ 32 ∷ 102 ∷ []) (the-token-at 4) (6 ∷ [])
-    ∷ case partial (97 ∷ 32 ∷ 98 ∷ 124 ∷ 99 ∷ 45 ∷ 100 ∷ 124 ∷ 101 ∷ 32 ∷ 102 ∷ []) (the-token-at 5) (5 ∷ 6 ∷ [])
-    ∷ case partial (97 ∷ 32 ∷ 98 ∷ 124 ∷ 99 ∷ 45 ∷ 100 ∷ 124 ∷ 101 ∷ 32 ∷ 102 ∷ []) (the-token-at 6) (6 ∷ [])
-    ∷ case partial (97 ∷ 32 ∷ 98 ∷ 124 ∷ 99 ∷ 45 ∷ 100 ∷ 124 ∷ 101 ∷ 32 ∷ 102 ∷ []) (the-token-at 9) (9 ∷ [])
-    -- P `a/x b|c` with two absent columns; with the scores 0 and 1, and -1 and 7
-    ∷ case partial (97 ∷ 47 ∷ 120 ∷ 32 ∷ 98 ∷ 124 ∷ 99 ∷ []) (the-line-reset 2) (97 ∷ 32 ∷ 98 ∷ 47 ∷ 47 ∷ 124 ∷ 99 ∷ 47 ∷ 47 ∷ [])
-    ∷ case partial (97 ∷ 47 ∷ 120 ∷ 32 ∷ 98 ∷ 124 ∷ 99 ∷ []) (the-line-scored (pos 0 ∷ pos 1 ∷ [])) (97 ∷ 45 ∷ 98 ∷ 124 ∷ 99 ∷ [])
-    ∷ case partial (97 ∷ 47 ∷ 120 ∷ 32 ∷ 98 ∷ 124 ∷ 99 ∷ []) (the-line-scored (negsuc 0 ∷ pos 7 ∷ [])) (97 ∷ 45 ∷ 98 ∷ 124 ∷ 99 ∷ [])
-    -- withheld: an empty range hides nothing; P `a|b` from 1 to 1, and 2 to 2
-    ∷ case partial (97 ∷ 124 ∷ 98 ∷ []) (the-withheld 1 1) (97 ∷ 124 ∷ 98 ∷ [])
-    ∷ case partial (97 ∷ 124 ∷ 98 ∷ []) (the-withheld 2 2) (97 ∷ 124 ∷ 98 ∷ [])
-    -- P `a|b|c|d` from 1 to 2: the boundaries on both sides
-    ∷ case partial (97 ∷ 124 ∷ 98 ∷ 124 ∷ 99 ∷ 124 ∷ 100 ∷ []) (the-withheld 1 2) (97 ∷ 32 ∷ 98 ∷ 32 ∷ 99 ∷ 124 ∷ 100 ∷ [])
-    -- P `a/|b//x|c/` from 1 to 2: the columns are those in use outside
-    ∷ case partial (97 ∷ 47 ∷ 124 ∷ 98 ∷ 47 ∷ 47 ∷ 120 ∷ 124 ∷ 99 ∷ 47 ∷ []) (the-withheld 1 2) (97 ∷ 32 ∷ 98 ∷ 32 ∷ 99 ∷ [])
-    -- P `a-b/x|c` from 0 to 1: a tag outside stays; P `a/x|b` from 1 to 2: the last character has all columns
-    ∷ case partial (97 ∷ 45 ∷ 98 ∷ 47 ∷ 120 ∷ 124 ∷ 99 ∷ []) (the-withheld 0 1) (97 ∷ 32 ∷ 98 ∷ 47 ∷ 120 ∷ 124 ∷ 99 ∷ 47 ∷ [])
-    ∷ case partial (97 ∷ 47 ∷ 120 ∷ 124 ∷ 98 ∷ []) (the-withheld 1 2) (97 ∷ 47 ∷ 120 ∷ 32 ∷ 98 ∷ 47 ∷ [])
-    -- P `a/x|b/y-c//z` from 1 to 2, 0 to 3, 2 to 3, 0 to 0
-    ∷ case partial (97 ∷ 47 ∷ 120 ∷ 124 ∷ 98 ∷ 47 ∷ 121 ∷ 45 ∷ 99 ∷ 47 ∷ 47 ∷ 122 ∷ []) (the-withheld 1 2) (97 ∷ 47 ∷ 120 ∷ 32 ∷ 98 ∷ 32 ∷ 99 ∷ 47 ∷ 47 ∷ 122 ∷ [])
-    ∷ case partial (97 ∷ 47 ∷ 120 ∷ 124 ∷ 98 ∷ 47 ∷ 121 ∷ 45 ∷ 99 ∷ 47 ∷ 47 ∷ 122 ∷ []) (the-withheld 0 3) (97 ∷ 32 ∷ 98 ∷ 32 ∷ 99 ∷ [])
-    ∷ case partial (97 ∷ 47 ∷ 120 ∷ 124 ∷ 98 ∷ 47 ∷ 121 ∷ 45 ∷ 99 ∷ 47 ∷ 47 ∷ 122 ∷ []) (the-withheld 2 3) (97 ∷ 47 ∷ 120 ∷ 124 ∷ 98 ∷ 47 ∷ 121 ∷ 32 ∷ 99 ∷ 47 ∷ [])
-    ∷ case partial (97 ∷ 47 ∷ 120 ∷ 124 ∷ 98 ∷ 47 ∷ 121 ∷ 45 ∷ 99 ∷ 47 ∷ 47 ∷ 122 ∷ []) (the-withheld 0 0) (97 ∷ 47 ∷ 120 ∷ 47 ∷ 124 ∷ 98 ∷ 47 ∷ 121 ∷ 45 ∷ 99 ∷ 47 ∷ 47 ∷ 122 ∷ [])
+    -- characters are taken literally, and written as they are
+    ∷ case partial (text-of " -\\|/") the-text (text-of " \\/")
+    ∷ case partial (text-of " -\\|/") (the-line partial) (text-of " -\\|/")
+    ∷ case partial (text-of " -\\|/") (the-line tokenized) (text-of "\\ \\\\ \\/")
+    -- an escaped space is text; the partial form escapes the dash of a tag, the tokenized one does not
+    ∷ case tokenized (text-of "a\\ b/\\/-") the-text (text-of "a b")
+    ∷ case tokenized (text-of "a\\ b/\\/-") (the-line partial) (text-of "a- -b/\\/\\-")
+    ∷ case tokenized (text-of "a\\ b/\\/-") (the-line tokenized) (text-of "a\\ b/\\/-")
+    -- no column, one column
+    ∷ case tokenized (text-of "a") the-columns (0 ∷ [])
+    ∷ case tokenized (text-of "a/") the-columns (1 ∷ [])
+    -- but the keys of both are one, and so are those of two tokens with and without a column
+    ∷ case tokenized (text-of "a") the-key (text-of "a")
+    ∷ case tokenized (text-of "a/") the-key (text-of "a")
+    ∷ case tokenized (text-of "a b") the-key (text-of "a|b")
+    ∷ case tokenized (text-of "a/ b/") the-key (text-of "a|b")
+    -- a key has no column that is nowhere in use
+    ∷ case partial (text-of "a/-b") the-key (text-of "a-b")
+    ∷ case partial (text-of "a/|b/") the-key (text-of "a|b")
+    -- only columns at the end are cut; a tag inside a token uses its column
+    ∷ case partial (text-of "a//x/|b") the-key (text-of "a//x|b//")
+    ∷ case partial (text-of "a/x-b|c") the-key (text-of "a/x-b/|c/")
+    -- a row ends at its last present tag; all columns before a word boundary and at the end, else none that is absent
+    ∷ case partial (text-of "a/x//|b//y c") the-columns (3 ∷ [])
+    ∷ case partial (text-of "a/x//|b//y c") the-tags (text-of "x///y///")
+    ∷ case partial (text-of "a/x//|b//y c") (the-line partial) (text-of "a/x//|b//y c///")
+    ∷ case partial (text-of "a/x//|b//y c") (the-line tokenized) (text-of "a/x//")
+    -- the cursor: from 0 the first token is skipped; from 1, inside it, a token begins; then to the end, and past it
+    ∷ case partial (text-of "a b|c-d|e f") (the-token-at 0) (2 ∷ 4 ∷ [])
+    ∷ case partial (text-of "a b|c-d|e f") (the-token-at 1) (1 ∷ 2 ∷ [])
+    ∷ case partial (text-of "a b|c-d|e f") (the-token-at 3) (3 ∷ 4 ∷ [])
+    ∷ case partial (text-of "a b|c-d|e f") (the-token-at 4) (6 ∷ [])
+    ∷ case partial (text-of "a b|c-d|e f") (the-token-at 5) (5 ∷ 6 ∷ [])
+    ∷ case partial (text-of "a b|c-d|e f") (the-token-at 6) (6 ∷ [])
+    ∷ case partial (text-of "a b|c-d|e f") (the-token-at 9) (9 ∷ [])
+    -- with two absent columns; with the scores 0 and 1, and -1 and 7
+    ∷ case partial (text-of "a/x b|c") (the-line-reset 2) (text-of "a b//|c//")
+    ∷ case partial (text-of "a/x b|c") (the-line-scored (pos 0 ∷ pos 1 ∷ [])) (text-of "a-b|c")
+    ∷ case partial (text-of "a/x b|c") (the-line-scored (negsuc 0 ∷ pos 7 ∷ [])) (text-of "a-b|c")
+    -- withheld: an empty range hides nothing
+    ∷ case partial (text-of "a|b") (the-withheld 1 1) (text-of "a|b")
+    ∷ case partial (text-of "a|b") (the-withheld 2 2) (text-of "a|b")
+    -- the boundaries on both sides of the range
+    ∷ case partial (text-of "a|b|c|d") (the-withheld 1 2) (text-of "a b c|d")
+    -- the columns are those in use outside
+    ∷ case partial (text-of "a/|b//x|c/") (the-withheld 1 2) (text-of "a b c")
+    -- a tag outside stays; the last character has all columns
+    ∷ case partial (text-of "a-b/x|c") (the-withheld 0 1) (text-of "a b/x|c/")
+    ∷ case partial (text-of "a/x|b") (the-withheld 1 2) (text-of "a/x b/")
+    -- one character, all of them, the last, none
+    ∷ case partial (text-of "a/x|b/y-c//z") (the-withheld 1 2) (text-of "a/x b c//z")
+    ∷ case partial (text-of "a/x|b/y-c//z") (the-withheld 0 3) (text-of "a b c")
+    ∷ case partial (text-of "a/x|b/y-c//z") (the-withheld 2 3) (text-of "a/x|b/y c/")
+    ∷ case partial (text-of "a/x|b/y-c//z") (the-withheld 0 0) (text-of "a/x/|b/y-c//z")
     ∷ []
 
 pub given : Case → List ℕ
@@ -182,5 +184,8 @@ given c = answer (c .ask) (read (c .form) (c .bytes))
 
 -- every worked line has its answer
 pub worked-lines : map given worked ≡ map (λ (c : Case). c .wanted) worked
-unfolding worked given told answer spans servedAs tagsAs if_then_else_ utf8-2 utf8-3 utf8-4 charOf walk wholes values width encode encodes size find ranges typeOf code textOf marksOf rowsOf starts numbers onto cut pad kind ordinary inside opening step advance unfinished ending finish push follow run before add gather built placed read tokens first nextToken escapeAs escape writeTags writeToken joined sign shown writePartial line bare marked resetTags setMark setBoundary decision scored blank inRange touches hidden widest trimmed withheld
+unfolding worked quoted given told answer spans servedAs tagsAs if_then_else_ utf8-2 utf8-3 utf8-4 charOf walk wholes values width encode encodes size find
+    ranges typeOf code textOf marksOf rowsOf starts numbers onto cut pad kind ordinary inside opening step advance unfinished ending finish push follow run
+    before add gather built placed read tokens first nextToken escapeAs escape writeTags writeToken joined sign shown writePartial line bare marked
+    resetTags setMark setBoundary decision scored blank inRange touches hidden widest trimmed withheld
 worked-lines = refl

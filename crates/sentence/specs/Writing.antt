@@ -1,5 +1,6 @@
 -- Tokens, the written lines, the note key, and the changes of a sentence.
 use Prim.Native.Nat.{ℕ, zero, suc, _+_, _-_}
+use Prim.Native.Char.{code as chr}
 use mathlib.Core.Bool.{Bool, true, false}
 use mathlib.Core.List.{List, [], _∷_, _++_, map}
 use lib.Dec.{leb}
@@ -48,9 +49,9 @@ surface s b e = take (e - b) (drop b (text s))
 -- ---- lines, as characters
 -- a backslash before what a form gives a meaning
 unfoldable pub escapeAs : Kind → ℕ → List ℕ
-escapeAs (mark m) c = 92 ∷ c ∷ []
-escapeAs slash c = 92 ∷ c ∷ []
-escapeAs back c = 92 ∷ c ∷ []
+escapeAs (mark m) c = chr "\\" ∷ c ∷ []
+escapeAs slash c = chr "\\" ∷ c ∷ []
+escapeAs back c = chr "\\" ∷ c ∷ []
 escapeAs plain c = c ∷ []
 
 unfoldable pub escape : Form → List ℕ → List ℕ
@@ -60,7 +61,7 @@ escape f (c ∷ cs) = escapeAs (kind f c) c ++ escape f cs
 -- each tag behind a slash
 unfoldable pub writeTags : Form → List Tag → List ℕ
 writeTags f [] = []
-writeTags f (t ∷ ts) = 47 ∷ (escape f t ++ writeTags f ts)
+writeTags f (t ∷ ts) = chr "/" ∷ (escape f t ++ writeTags f ts)
 
 -- a token's surface and all columns of its last character
 unfoldable pub writeToken : Sentence → Token → List ℕ
@@ -69,13 +70,13 @@ writeToken s (token b e) = escape tokenized (surface s b e) ++ writeTags tokeniz
 unfoldable pub joined : List (List ℕ) → List ℕ
 joined [] = []
 joined (w ∷ []) = w
-joined (w ∷ v ∷ ws) = w ++ (32 ∷ joined (v ∷ ws))
+joined (w ∷ v ∷ ws) = w ++ (chr " " ∷ joined (v ∷ ws))
 
 -- the sign of a boundary
 unfoldable pub sign : Mark → ℕ
-sign none = 45
-sign word = 124
-sign unknown = 32
+sign none = chr "-"
+sign word = chr "|"
+sign unknown = chr " "
 
 -- the tags written before a boundary: all columns before a word boundary, else through the last present one
 unfoldable pub shown : ℕ → Mark → List Tag → List Tag
@@ -140,4 +141,4 @@ scored zs s = resetTags 0 (record { cells = marked (map decision zs) (s .cells);
 
 -- the one-blank sentence
 unfoldable pub blank : Sentence
-blank = record { cells = final 32 []; columns = 0 }
+blank = record { cells = final (chr " ") []; columns = 0 }

@@ -16,8 +16,8 @@ use Rattle.types.specs.TypeOf.{typeOf}
 use Rattle.sentence.specs.Sentence.{Tag, Mark, none, word, unknown, code, Cells, Sentence, textOf, marksOf, rowsOf, text, marks, rows, types, charPositions, bytePositions, cut, rowBytes, tagBytes, Char, Row, CellsOf, Formed}
 use Rattle.sentence.proofs.Shape.{cut-row}
 use Rattle.sentence.proofs.Trips.{pad-whole}
-use Rattle.parts.specs.Parts.{isText, areMarks, isCell, cellsTo, areCells}
-use Rattle.parts.proofs.Says.{same-self, Plain, plain-is, is-plain, TextIs, text-is}
+use Rattle.sheet_check.specs.Passes.{isText, areMarks, isCell, cellsTo, areCells}
+use Rattle.sheet_check.proofs.Says.{same-self, Plain, plain-is, is-plain, TextIs, text-is}
 use Rattle.sheet.specs.declared.Record.{Record}
 use Rattle.sheet.specs.Layout.{Buffers, recordOf, tagsOf, cellsOf, cellStarts, bytesOf, lay, roomFor, Front, Holds, slices, rowsBy, markOf, link, spell, Sheet}
 use Rattle.sheet.specs.Check.{inLimits, isLaid, Room, isSheet}
@@ -220,8 +220,8 @@ pub no-sheet : (r : Record) (d : Buffers) → isSheet r d ≡ false → (s : Sen
 no-sheet r d e s h = true≢false (sym (holds-is r d s h) ∙ e)
 
 -- ---- buffers that pass each test hold what they spell
-at-front : (part d : List ℕ) (n : ℕ) → n ≤ length d → part ≡ take n d → Front part d
-at-front part d n h e = let z : length part ≡ n = omega (arith, ap length e, length-take n d) in rw z (sym e)
+at-front : (front d : List ℕ) (n : ℕ) → n ≤ length d → front ≡ take n d → Front front d
+at-front front d n h e = let z : length front ≡ n = omega (arith, ap length e, length-take n d) in rw z (sym e)
 
 -- characters, boundaries, cells and rows that are in the buffers
 record In (r : Record) (d : Buffers) (cs : List ℕ) (ms : List Mark) (ts : List Tag) (rs : List (List Tag)) : Type 0 where

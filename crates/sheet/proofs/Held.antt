@@ -12,7 +12,7 @@ use Rattle.utf8.proofs.Codec.{length-encodes, scalars-encodes, width-small}
 use Rattle.types.specs.TypeOf.{typeOf}
 use Rattle.sentence.specs.Sentence.{Tag, Mark, none, word, unknown, code, Cells, final, cell, Sentence, textOf, marksOf, rowsOf, text, marks, rows, types, starts, charPositions, bytePositions, pad, rowBytes, tagBytes, Char, Row, CellsOf, Formed}
 use Rattle.sentence.proofs.Trips.{all-absent, cut-pad, pad-length}
-pub use Rattle.parts.proofs.Says.{length-starts, length-numbers}
+pub use Rattle.sheet_check.proofs.Says.{length-starts, length-numbers}
 use Rattle.sheet.specs.declared.Record.{Record}
 use Rattle.sheet.specs.Layout.{Buffers, recordOf, tagsOf, cellsOf, cellStarts, bytesOf, lay, laid, roomFor, Front, Holds, slices, rowsBy, markOf, link, spell}
 
@@ -74,7 +74,7 @@ unfolding size
 some-bytes [] = omega arith
 some-bytes (c ∷ cs) = omega (arith, some-bytes cs, width-small c)
 
--- ---- each part gives back what it was made of
+-- ---- each list gives back what it was made of
 pub marks-back : (ms : List Mark) → map markOf (map code ms) ≡ ms
 unfolding markOf code
 marks-back [] = refl
@@ -145,13 +145,13 @@ pub cells-bytes : (n : ℕ) (rs : List (List Tag)) → rowBytes (cellsOf n rs) �
 cells-bytes n rs = omega (arith, length-bytesOf (cellsOf n rs), ap length (bytes-same n rs), length-bytesOf (tagsOf rs), bytes-tagsOf rs)
 
 -- ---- what the record and each buffer have where a sentence is held
--- a buffer starts with a part of n elements
-pub record Part (n : ℕ) (part d : List ℕ) : Type 0 where
-  pub is : take n d ≡ part
+-- a buffer starts with a front of n elements
+pub record Prefix (n : ℕ) (front d : List ℕ) : Type 0 where
+  pub is : take n d ≡ front
   pub fits : n ≤ length d
 
-part : (part d : List ℕ) (n m : ℕ) → n ≡ m → length part ≡ m → Front part d → Part n part d
-part p d n m e k h = record { is = rw (e, ← k) h; fits = omega (arith, ap length h, length-take (length p) d) }
+prefix : (front d : List ℕ) (n m : ℕ) → n ≡ m → length front ≡ m → Front front d → Prefix n front d
+prefix p d n m e k h = record { is = rw (e, ← k) h; fits = omega (arith, ap length h, length-take (length p) d) }
 
 module _ {r : Record} {d : Buffers} {s : Sentence} (h : Holds r d s) where
   pub n-held : r .n ≡ length (text s)
@@ -174,31 +174,31 @@ module _ {r : Record} {d : Buffers} {s : Sentence} (h : Holds r d s) where
   unfolding recordOf
   g-held = rw (h .record-is)
 
-  pub text-held : Part (r .b) (encodes (text s)) (d .text-buf)
+  pub text-held : Prefix (r .b) (encodes (text s)) (d .text-buf)
   unfolding lay
-  text-held = part _ _ _ _ b-held (length-encodes (text s)) (h .text-at)
+  text-held = prefix _ _ _ _ b-held (length-encodes (text s)) (h .text-at)
 
-  pub types-held : Part (r .n) (types (text s)) (d .types-buf)
+  pub types-held : Prefix (r .n) (types (text s)) (d .types-buf)
   unfolding lay
-  types-held = part _ _ _ _ n-held (length-map (text s) typeOf) (h .types-at)
+  types-held = prefix _ _ _ _ n-held (length-map (text s) typeOf) (h .types-at)
 
-  pub boundaries-held : Part (r .n - 1) (map code (marks s)) (d .boundaries-buf)
+  pub boundaries-held : Prefix (r .n - 1) (map code (marks s)) (d .boundaries-buf)
   unfolding lay
   boundaries-held =
       let e : r .n - 1 ≡ length (marks s) = omega (arith, n-held, length-marks (s .cells)) in
-      part _ _ _ _ e (length-map (marks s) code) (h .boundaries-at)
+      prefix _ _ _ _ e (length-map (marks s) code) (h .boundaries-at)
 
-  pub char-pos-held : Part (r .n + 1) (charPositions (text s)) (d .char-pos-buf)
+  pub char-pos-held : Prefix (r .n + 1) (charPositions (text s)) (d .char-pos-buf)
   unfolding lay
-  char-pos-held = part _ _ _ _ (rw n-held) (length-starts 0 (text s)) (h .char-pos-at)
+  char-pos-held = prefix _ _ _ _ (rw n-held) (length-starts 0 (text s)) (h .char-pos-at)
 
-  pub byte-pos-held : Part (r .b + 1) (bytePositions (text s)) (d .byte-pos-buf)
+  pub byte-pos-held : Prefix (r .b + 1) (bytePositions (text s)) (d .byte-pos-buf)
   unfolding lay
-  byte-pos-held = part _ _ _ _ (rw b-held) (length-numbers 0 (text s)) (h .byte-pos-at)
+  byte-pos-held = prefix _ _ _ _ (rw b-held) (length-numbers 0 (text s)) (h .byte-pos-at)
 
-  pub tag-bytes-held : Part (r .g) (bytesOf (tagsOf (rows s))) (d .tag-bytes-buf)
+  pub tag-bytes-held : Prefix (r .g) (bytesOf (tagsOf (rows s))) (d .tag-bytes-buf)
   unfolding lay
-  tag-bytes-held = part _ _ _ _ g-held (length-bytesOf (tagsOf (rows s)) ∙ bytes-tagsOf (rows s)) (h .tag-bytes-at)
+  tag-bytes-held = prefix _ _ _ _ g-held (length-bytesOf (tagsOf (rows s)) ∙ bytes-tagsOf (rows s)) (h .tag-bytes-at)
 
   pub text-chars-held : All Char (text s)
   text-chars-held = text-chars (s .columns) (s .cells) (h .formed .cells-are)
@@ -212,13 +212,13 @@ module _ {r : Record} {d : Buffers} {s : Sentence} (h : Holds r d s) where
   pub cells-long : length (cellsOf (s .columns) (rows s)) ≡ r .cells
   cells-long = length-cellsOf (s .columns) (rows s) rows-held ∙ rw (length-rows (s .cells)) (sym cells-held)
 
-  pub cell-starts-held : Part (r .cells) (cellStarts 0 (cellsOf (s .columns) (rows s))) (d .cell-starts-buf)
+  pub cell-starts-held : Prefix (r .cells) (cellStarts 0 (cellsOf (s .columns) (rows s))) (d .cell-starts-buf)
   unfolding lay
-  cell-starts-held = part _ _ _ _ refl (length-cellStarts 0 (cellsOf (s .columns) (rows s)) ∙ cells-long) (h .cell-starts-at)
+  cell-starts-held = prefix _ _ _ _ refl (length-cellStarts 0 (cellsOf (s .columns) (rows s)) ∙ cells-long) (h .cell-starts-at)
 
-  pub cell-lengths-held : Part (r .cells) (map size (cellsOf (s .columns) (rows s))) (d .cell-lengths-buf)
+  pub cell-lengths-held : Prefix (r .cells) (map size (cellsOf (s .columns) (rows s))) (d .cell-lengths-buf)
   unfolding lay
-  cell-lengths-held = part _ _ _ _ refl (length-map (cellsOf (s .columns) (rows s)) size ∙ cells-long) (h .cell-lengths-at)
+  cell-lengths-held = prefix _ _ _ _ refl (length-map (cellsOf (s .columns) (rows s)) size ∙ cells-long) (h .cell-lengths-at)
 
   slices-held : map scalars (slices (take (r .cells) (d .cell-lengths-buf)) (d .tag-bytes-buf)) ≡ cellsOf (s .columns) (rows s)
   slices-held =

@@ -25,23 +25,23 @@ use Rattle.sheet.specs.declared.Record.{Record}
 use Rattle.sheet.specs.Layout.{Buffers, cellsOf, cellStarts, bytesOf, Holds, Sheet, markOf}
 use Rattle.sheet.specs.Check.{isSheet}
 use Rattle.sheet.proofs.Exact.{is-sheet}
-use Rattle.sheet.proofs.Held.{Part, length-marks, length-rows, length-bytesOf, rowBytes-append, some-bytes, bytes-joined, bytes-same, cells-bytes, cells-long, n-held, b-held, columns-held, cells-held, g-held, text-held, types-held, boundaries-held, char-pos-held, byte-pos-held, cell-starts-held, cell-lengths-held, tag-bytes-held, text-chars-held, rows-held}
+use Rattle.sheet.proofs.Held.{Prefix, length-marks, length-rows, length-bytesOf, rowBytes-append, some-bytes, bytes-joined, bytes-same, cells-bytes, cells-long, n-held, b-held, columns-held, cells-held, g-held, text-held, types-held, boundaries-held, char-pos-held, byte-pos-held, cell-starts-held, cell-lengths-held, tag-bytes-held, text-chars-held, rows-held}
 
--- ---- a buffer that starts with a part of n elements
-pub part-at : {n : ℕ} {part d : List ℕ} → Part n part d → (i : ℕ) → i < n → getD d i 0 ≡ getD part i 0
-part-at {n} {part} {d} p i h = sym (getD-take n d i 0 h) ∙ ap (λ (l : List ℕ). getD l i 0) (p .is)
+-- ---- a buffer that starts with a front of n elements
+pub prefix-at : {n : ℕ} {front d : List ℕ} → Prefix n front d → (i : ℕ) → i < n → getD d i 0 ≡ getD front i 0
+prefix-at {n} {front} {d} p i h = sym (getD-take n d i 0 h) ∙ ap (λ (l : List ℕ). getD l i 0) (p .is)
 
-pub part-whole : {n : ℕ} {part d : List ℕ} → Part n part d → part ++ drop n d ≡ d
-part-whole {n} {part} {d} p = rw (p .is) at (take-append-drop n d)
+pub prefix-whole : {n : ℕ} {front d : List ℕ} → Prefix n front d → front ++ drop n d ≡ d
+prefix-whole {n} {front} {d} p = rw (p .is) at (take-append-drop n d)
 
-pub part-length : {n : ℕ} {part d : List ℕ} → Part n part d → length part ≡ n
-part-length {n} {part} {d} p = rw (p .is) at (length-take-le n d (p .fits))
+pub prefix-length : {n : ℕ} {front d : List ℕ} → Prefix n front d → length front ≡ n
+prefix-length {n} {front} {d} p = rw (p .is) at (length-take-le n d (p .fits))
 
-pub part-of : {n : ℕ} {part d : List ℕ} → Part n part d → (b k : ℕ) → b + k ≤ n → take k (drop b d) ≡ take k (drop b part)
-part-of {n} {part} {d} p b k h =
-    let l = part-length p in
-    ap (λ (m : List ℕ). take k (drop b m)) (sym (part-whole p))
-    ∙ rw (drop-append-le b part (drop n d) (omega arith)) (take-append-le k (drop b part) (drop n d) (omega (arith, length-drop b part)))
+pub prefix-of : {n : ℕ} {front d : List ℕ} → Prefix n front d → (b k : ℕ) → b + k ≤ n → take k (drop b d) ≡ take k (drop b front)
+prefix-of {n} {front} {d} p b k h =
+    let l = prefix-length p in
+    ap (λ (m : List ℕ). take k (drop b m)) (sym (prefix-whole p))
+    ∙ rw (drop-append-le b front (drop n d) (omega arith)) (take-append-le k (drop b front) (drop n d) (omega (arith, length-drop b front)))
 
 -- ---- parts of a list that is made of the parts of another, one after the other
 module _ {A B : Type 0} (F : List A → List B) (n : List A → ℕ) (joins : (us vs : List A) → F (us ++ vs) ≡ F us ++ F vs) (long : (us : List A) → length (F us) ≡ n us) where
@@ -52,8 +52,8 @@ module _ {A B : Type 0} (F : List A → List B) (n : List A → ℕ) (joins : (u
   middle us vs ws = rw (joins us (vs ++ ws), drop-at (F us) (F (vs ++ ws)) (n us) (long us), joins vs ws) (take-at (F vs) (F ws) (n vs) (long vs))
 
   -- from the b-th on, k of them
-  part : (l : List A) (b k : ℕ) → take (n (take (b + k) l) - n (take b l)) (drop (n (take b l)) (F l)) ≡ F (take k (drop b l))
-  part l b k =
+  stretch : (l : List A) (b k : ℕ) → take (n (take (b + k) l) - n (take b l)) (drop (n (take b l)) (F l)) ≡ F (take k (drop b l))
+  stretch l b k =
       let whole : take b l ++ (take k (drop b l) ++ drop k (drop b l)) ≡ l = rw take-append-drop (take-append-drop b l) in
       let e : n (take (b + k) l) - n (take b l) ≡ n (take k (drop b l)) = omega (arith, ap n (take-add b k l), sum (take b l) (take k (drop b l))) in
       rw e (ap (λ (m : List A). take (n (take k (drop b l))) (drop (n (take b l)) (F m))) (sym whole) ∙ middle (take b l) (take k (drop b l)) (drop k (drop b l)))
@@ -77,12 +77,12 @@ module _ {A : Type 0} (z : A) where
   pub left : (l : List A) (i : ℕ) → i < length l → drop i l ≡ getD l i z ∷ drop (i + 1) l
   left l i h = rw add-one (drop-cons l i z h)
 
--- a part from b up to e, as a loop has what is left of it
-pub part-left : {A : Type 0} (l : List A) (b e : ℕ) → drop b (take e l) ≡ take (e - b) (drop b l)
-part-left l zero e = let f : e - 0 ≡ e = omega arith in rw f
-part-left [] (suc b) e = rw (take-nil e, take-nil (e - suc b))
-part-left (x ∷ l) (suc b) zero = let f : 0 - suc b ≡ 0 = omega arith in rw f
-part-left (x ∷ l) (suc b) (suc e) = let f : suc e - suc b ≡ e - b = omega arith in rw f (part-left l b e)
+-- a stretch from b up to e, as a loop has what is left of it
+pub stretch-left : {A : Type 0} (l : List A) (b e : ℕ) → drop b (take e l) ≡ take (e - b) (drop b l)
+stretch-left l zero e = let f : e - 0 ≡ e = omega arith in rw f
+stretch-left [] (suc b) e = rw (take-nil e, take-nil (e - suc b))
+stretch-left (x ∷ l) (suc b) zero = let f : 0 - suc b ≡ 0 = omega arith in rw f
+stretch-left (x ∷ l) (suc b) (suc e) = let f : suc e - suc b ≡ e - b = omega arith in rw f (stretch-left l b e)
 
 -- ---- the bytes of a text
 pub bytes-before : (cs : List ℕ) (i : ℕ) → size (take i cs) ≤ size cs
@@ -291,53 +291,53 @@ module _ {r : Record} {d : Buffers} {s : Sentence} (h : Holds r d s) where
 
   -- ---- what stands at an index
   pub char-pos-is : (i : ℕ) → i ≤ r .n → getD (d .char-pos-buf) i 0 ≡ size (take i (text s))
-  char-pos-is i k = part-at (char-pos-held h) i (omega arith) ∙ start-is 0 (text s) i (omega (arith, bounds)) ∙ omega arith
+  char-pos-is i k = prefix-at (char-pos-held h) i (omega arith) ∙ start-is 0 (text s) i (omega (arith, bounds)) ∙ omega arith
 
   pub byte-pos-is : (i : ℕ) → i ≤ r .n → getD (d .byte-pos-buf) (size (take i (text s))) 0 ≡ i
   byte-pos-is i k =
-      part-at (byte-pos-held h) (size (take i (text s))) (omega (arith, bounds, bytes-before (text s) i))
+      prefix-at (byte-pos-held h) (size (take i (text s))) (omega (arith, bounds, bytes-before (text s) i))
       ∙ number-is 0 (text s) i (omega (arith, bounds))
       ∙ omega arith
 
   -- also inside a character
   pub byte-pos-small : (p : ℕ) → p ≤ r .b → getD (d .byte-pos-buf) p 0 ≤ r .n
-  byte-pos-small p k = omega (arith, bounds, part-at (byte-pos-held h) p (omega arith), number-small 0 (text s) p)
+  byte-pos-small p k = omega (arith, bounds, prefix-at (byte-pos-held h) p (omega arith), number-small 0 (text s) p)
 
   pub boundary-is : (i : ℕ) → i < r .n - 1 → getD (d .boundaries-buf) i 0 ≡ code (getD (marks s) i none)
   unfolding code
-  boundary-is i k = part-at (boundaries-held h) i k ∙ List·getD-map code (marks s) i none
+  boundary-is i k = prefix-at (boundaries-held h) i k ∙ List·getD-map code (marks s) i none
 
   -- the cells, row after row
   abbrev pub cells : List Tag
   cells = cellsOf (s .columns) (rows s)
 
   pub cell-start-is : (j : ℕ) → j < r .cells → getD (d .cell-starts-buf) j 0 ≡ rowBytes (take j cells)
-  cell-start-is j k = part-at (cell-starts-held h) j k ∙ cell-start 0 cells j (omega (arith, bounds)) ∙ omega arith
+  cell-start-is j k = prefix-at (cell-starts-held h) j k ∙ cell-start 0 cells j (omega (arith, bounds)) ∙ omega arith
 
   pub cell-length-is : (j : ℕ) → j < r .cells → getD (d .cell-lengths-buf) j 0 ≡ size (getD cells j [])
   unfolding size
-  cell-length-is j k = part-at (cell-lengths-held h) j k ∙ List·getD-map size cells j []
+  cell-length-is j k = prefix-at (cell-lengths-held h) j k ∙ List·getD-map size cells j []
 
   -- ---- parts of the text and of the tag bytes
   -- the bytes of the characters from b up to e
-  pub text-part : (b e : ℕ) → b ≤ e → e ≤ r .n
+  pub text-stretch : (b e : ℕ) → b ≤ e → e ≤ r .n
       → take (size (take e (text s)) - size (take b (text s))) (drop (size (take b (text s))) (d .text-buf)) ≡ encodes (surface s b e)
-  text-part b e k l =
+  text-stretch b e k l =
       let f : b + (e - b) ≡ e = omega arith in
-      part-of (text-held h) (size (take b (text s))) (size (take e (text s)) - size (take b (text s)))
+      prefix-of (text-held h) (size (take b (text s))) (size (take e (text s)) - size (take b (text s)))
       (omega (arith, bounds, bytes-before (text s) e, bytes-more (text s) b e k))
-      ∙ (rw f at (part encodes size encodes-append length-encodes (text s) b (e - b)))
+      ∙ (rw f at (stretch encodes size encodes-append length-encodes (text s) b (e - b)))
 
   -- the bytes of the j-th cell
-  pub cell-part : (j : ℕ) → j < r .cells → take (size (getD cells j [])) (drop (rowBytes (take j cells)) (d .tag-bytes-buf)) ≡ encodes (getD cells j [])
+  pub cell-stretch : (j : ℕ) → j < r .cells → take (size (getD cells j [])) (drop (rowBytes (take j cells)) (d .tag-bytes-buf)) ≡ encodes (getD cells j [])
   unfolding bytesOf
-  cell-part j k =
+  cell-stretch j k =
       let l : j < length cells = omega (arith, bounds) in
       let n = tag-bytes-next cells j l in
       let f : rowBytes (take (j + 1) cells) - rowBytes (take j cells) ≡ size (getD cells j []) = omega arith in
       let e = bytes-same (s .columns) (rows s) in
-      part-of (tag-bytes-held h) (rowBytes (take j cells)) (size (getD cells j [])) (omega (arith, bounds, tag-bytes-before cells (j + 1)))
-      ∙ rw (← e) (rw (f, left [] cells j l, append-nil) at (part bytesOf rowBytes bytes-joined length-bytesOf cells j 1))
+      prefix-of (tag-bytes-held h) (rowBytes (take j cells)) (size (getD cells j [])) (omega (arith, bounds, tag-bytes-before cells (j + 1)))
+      ∙ rw (← e) (rw (f, left [] cells j l, append-nil) at (stretch bytesOf rowBytes bytes-joined length-bytesOf cells j 1))
 
   -- ---- steps of a loop that goes by characters and boundaries
   pub marks-step : (i : ℕ) → i < r .n - 1 → drop i (marks s) ≡ markOf (getD (d .boundaries-buf) i 0) ∷ drop (i + 1) (marks s)
@@ -359,7 +359,7 @@ module _ {r : Record} {d : Buffers} {s : Sentence} (h : Holds r d s) where
       let at = size (take i (text s)) in
       let c = all-at SC.Char 0 (text s) i (text-chars-held h) (omega (arith, bounds)) in
       rw (
-        ← (part-whole (text-held h)),
+        ← (prefix-whole (text-held h)),
         drop-append-le at (encodes (text s)) (drop (r .b) (d .text-buf)) (omega (arith, length-encodes (text s), bytes-before (text s) i)),
         rest encodes size encodes-append length-encodes (text s) i,
         text-step i k,

@@ -11,14 +11,14 @@ use lib.Dec.{eqb, leb, ltb}
 use Rattle.laws.proofs.Facts.{reads}
 use lib.ListN.{length, take}
 use lib.Seq.{length-take-le}
-use Rattle.parts.specs.Parts.{isText, areMarks, areCells}
+use Rattle.sheet_check.specs.Passes.{isText, areMarks, areCells}
 use Rattle.sheet.specs.declared.Record.{Record}
 use Rattle.sheet.specs.Layout.{Buffers, roomFor}
 use Rattle.sheet.specs.Check.{inLimits, isLaid, Room, isSheet}
 use Rattle.sheet.proofs.Exact.{room-is}
 
-pub part-long : (n : ℕ) (d : List ℕ) → n ≤ length d → n ≡ length (take n d)
-part-long n d h = sym (length-take-le n d h)
+pub prefix-long : (n : ℕ) (d : List ℕ) → n ≤ length d → n ≡ length (take n d)
+prefix-long n d h = sym (length-take-le n d h)
 
 leb-less : (n m : ℕ) → leb n (m + 1) ≡ leb (n - 1) m
 leb-less n m = on (leb (n - 1) m) refl

@@ -3,7 +3,7 @@ use Prim.Native.Nat.{_+_, _-_, _*_, _≤_}
 use mathlib.Core.Bool.{Bool, _&&_}
 use lib.Dec.{eqb, leb}
 use lib.ListN.{length, take}
-use Rattle.parts.specs.Parts.{isText, areMarks, areCells}
+use Rattle.sheet_check.specs.Passes.{isText, areMarks, areCells}
 use Rattle.sheet.specs.declared.Record.{Record}
 use Rattle.sheet.specs.Layout.{Buffers, roomFor}
 

@@ -9,6 +9,8 @@ use Rattle.laws.specs.Put.{over}
 use Rattle.utf8.specs.Utf8.{scalars, encodes, size}
 use Rattle.sentence.specs.Sentence.{Tag, Mark, none, word, unknown, code, Cells, final, cell, Sentence, text, marks, rows, count, types, charPositions, bytePositions, cut, pad, tagBytes, Formed}
 use Rattle.sheet.specs.declared.Record.{Record}
+use denote.Ref.{RefT}
+use denote.Triple.Both.{Both}
 
 -- the contents of the eight buffers
 pub record Buffers : Type 0 where
@@ -32,6 +34,37 @@ buffers t y m c b r e g = record {
   cell-lengths-buf = e;
   tag-bytes-buf = g;
 }
+
+-- a buffer that is lent to a call, by what it held before, and by what it holds after
+abbrev pub LentBefore : Type 0 → Type 0
+LentBefore E = Both (RefT (List ℕ)) E
+
+abbrev pub LentAfter : Type 0 → Type 0
+LentAfter E = Both E (RefT (List ℕ))
+
+-- the eight buffers that are lent: before a call, after it, and where a call asks something of them
+abbrev pub lentBefore :
+    {E₀ E₁ E₂ E₃ E₄ E₅ E₆ E₇ : Type 0} → LentBefore E₀ → LentBefore E₁ → LentBefore E₂ → LentBefore E₃ → LentBefore E₄ → LentBefore E₅
+    → LentBefore E₆ → LentBefore E₇ → Buffers
+lentBefore t y m c b w e g =
+    buffers (t .entry .now) (y .entry .now) (m .entry .now) (c .entry .now) (b .entry .now) (w .entry .now) (e .entry .now) (g .entry .now)
+
+abbrev pub lentAfter :
+    {E₀ E₁ E₂ E₃ E₄ E₅ E₆ E₇ : Type 0} → LentAfter E₀ → LentAfter E₁ → LentAfter E₂ → LentAfter E₃ → LentAfter E₄ → LentAfter E₅
+    → LentAfter E₆ → LentAfter E₇ → Buffers
+lentAfter t y m c b w e g = buffers (t .exit .now) (y .exit .now) (m .exit .now) (c .exit .now) (b .exit .now) (w .exit .now) (e .exit .now) (g .exit .now)
+
+abbrev pub lent :
+    RefT (List ℕ) → RefT (List ℕ) → RefT (List ℕ) → RefT (List ℕ) → RefT (List ℕ) → RefT (List ℕ) → RefT (List ℕ) → RefT (List ℕ) → Buffers
+lent t y m c b w e g = buffers (t .now) (y .now) (m .now) (c .now) (b .now) (w .now) (e .now) (g .now)
+
+-- the buffers with other boundaries, and with other cells
+abbrev pub withBoundaries : List ℕ → Buffers → Buffers
+withBoundaries m d =
+    buffers (d .text-buf) (d .types-buf) m (d .char-pos-buf) (d .byte-pos-buf) (d .cell-starts-buf) (d .cell-lengths-buf) (d .tag-bytes-buf)
+
+abbrev pub withCells : List ℕ → List ℕ → Buffers → Buffers
+withCells w e d = buffers (d .text-buf) (d .types-buf) (d .boundaries-buf) (d .char-pos-buf) (d .byte-pos-buf) w e (d .tag-bytes-buf)
 
 -- N, B, columns, N times columns, and G
 unfoldable pub recordOf : Sentence → Record
@@ -70,7 +103,7 @@ lay s = record {
   tag-bytes-buf = bytesOf (tagsOf (rows s));
 }
 
--- each buffer with the part of a sentence at its front, and then what it held
+-- each buffer with its list of a sentence at its front, and then what it held
 unfoldable pub laid : Sentence → Buffers → Buffers
 laid s d = record {
   text-buf = over (lay s .text-buf) (d .text-buf);
@@ -95,9 +128,9 @@ roomFor r d =
     && leb (r .cells) (length (d .cell-lengths-buf))
     && leb (r .g) (length (d .tag-bytes-buf))
 
--- a buffer starts with a part
+-- a buffer starts with a list
 abbrev pub Front : List ℕ → List ℕ → Type 0
-Front part d = take (length part) d ≡ part
+Front front d = take (length front) d ≡ front
 
 -- the record and the buffers are the sentence as laid out, within the limits; memory past the needed room is free
 pub record Holds (r : Record) (d : Buffers) (s : Sentence) : Type 0 where

@@ -2,7 +2,7 @@
 use sentence::Refusal;
 ghost use mathlib.Core.Path.{_≡_};
 ghost use mathlib.Core.Bool.{_&&_};
-ghost use Rattle.sheet.specs.Layout.{buffers, roomFor};
+ghost use Rattle.sheet.specs.Layout.{roomFor, lent, lentBefore};
 ghost use Rattle.sheet.specs.Check.{inLimits, isLaid, Room, isSheet};
 
 // How much of the buffers a sentence takes: characters, text bytes, tag columns, cells (characters times columns), tag bytes.
@@ -27,7 +27,7 @@ pub enum Number {
 }
 
 // What a call answers that asks for a part of a buffer; an absent tag has none.
-pub enum Part {
+pub enum Slice {
     Bytes { start: usize, end: usize },
     Absent,
     Refused(Refusal),
@@ -55,7 +55,7 @@ fn fits(
     cell_lengths: &[u16],
     tag_bytes: &[u8],
 ) -> bool
-    ensures { λ ok. ⌜ ok ≡ (inLimits r && roomFor r (buffers (now (text .entry)) (now (types .entry)) (now (boundaries .entry)) (now («char_pos» .entry)) (now («byte_pos» .entry)) (now («cell_starts» .entry)) (now («cell_lengths» .entry)) (now («tag_bytes» .entry)))) ⌝ }
+    ensures { λ ok. ⌜ ok ≡ (inLimits r && roomFor r (lentBefore text types boundaries «char_pos» «byte_pos» «cell_starts» «cell_lengths» «tag_bytes»)) ⌝ }
 {
     in_limits(r)
         & ((r.b <= text.len())
@@ -80,10 +80,10 @@ fn is_laid(
     cell_lengths: &[u16],
     tag_bytes: &[u8],
 ) -> bool
-    requires { ⌜ Room r (buffers (now text) (now types) (now boundaries) (now «char_pos») (now «byte_pos») (now «cell_starts») (now «cell_lengths») (now «tag_bytes»)) ⌝ }
-    ensures { λ ok. ⌜ ok ≡ isLaid r (buffers (now (text .entry)) (now (types .entry)) (now (boundaries .entry)) (now («char_pos» .entry)) (now («byte_pos» .entry)) (now («cell_starts» .entry)) (now («cell_lengths» .entry)) (now («tag_bytes» .entry))) ⌝ }
+    requires { ⌜ Room r (lent text types boundaries «char_pos» «byte_pos» «cell_starts» «cell_lengths» «tag_bytes») ⌝ }
+    ensures { λ ok. ⌜ ok ≡ isLaid r (lentBefore text types boundaries «char_pos» «byte_pos» «cell_starts» «cell_lengths» «tag_bytes») ⌝ }
 {
-    if !parts::is_text(
+    if !sheet_check::is_text(
         &text[..r.b],
         &types[..r.n],
         &char_pos[..r.n + 1],
@@ -91,10 +91,10 @@ fn is_laid(
     ) {
         return false;
     }
-    if !parts::are_marks(&boundaries[..r.n - 1]) {
+    if !sheet_check::are_marks(&boundaries[..r.n - 1]) {
         return false;
     }
-    parts::are_cells(
+    sheet_check::are_cells(
         r.columns,
         &tag_bytes[..r.g],
         &cell_starts[..r.cells],
@@ -114,7 +114,7 @@ pub fn check(
     cell_lengths: &[u16],
     tag_bytes: &[u8],
 ) -> bool
-    ensures { λ ok. ⌜ ok ≡ isSheet r (buffers (now (text .entry)) (now (types .entry)) (now (boundaries .entry)) (now («char_pos» .entry)) (now («byte_pos» .entry)) (now («cell_starts» .entry)) (now («cell_lengths» .entry)) (now («tag_bytes» .entry))) ⌝ }
+    ensures { λ ok. ⌜ ok ≡ isSheet r (lentBefore text types boundaries «char_pos» «byte_pos» «cell_starts» «cell_lengths» «tag_bytes») ⌝ }
 {
     if !fits(
         r,

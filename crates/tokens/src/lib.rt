@@ -1,12 +1,12 @@
 // Tokens: a cursor that each step hands back, and the list of all tokens of a sentence.
-pub mod given; // given.rt: for a sheet that was checked
+pub mod unchecked; // unchecked.rt: for a sheet that was checked
 
 use sentence::Refusal;
 use sheet::Number;
 use sheet::Record;
 ghost use mathlib.Core.Path.{_≡_};
 ghost use lib.ListN.{length};
-ghost use Rattle.sheet.specs.Layout.{buffers};
+ghost use Rattle.sheet.specs.Layout.{lentBefore};
 ghost use Rattle.tokens.specs.Steps.{nextOf, countOf, filledOf, Listed};
 
 // A token: the number of its first character, and of the one after its last.
@@ -40,7 +40,7 @@ pub fn next_token(
     tag_bytes: &[u8],
     p: usize,
 ) -> Next
-    ensures { λ a. ⌜ a ≡ nextOf r (buffers (now (text .entry)) (now (types .entry)) (now (boundaries .entry)) (now («char_pos» .entry)) (now («byte_pos» .entry)) (now («cell_starts» .entry)) (now («cell_lengths» .entry)) (now («tag_bytes» .entry))) p ⌝ }
+    ensures { λ a. ⌜ a ≡ nextOf r (lentBefore text types boundaries «char_pos» «byte_pos» «cell_starts» «cell_lengths» «tag_bytes») p ⌝ }
 {
     if !sheet::check(
         r,
@@ -58,7 +58,7 @@ pub fn next_token(
             place: 0,
         });
     }
-    Next::Is(given::next_token(boundaries, r.n, p))
+    Next::Is(unchecked::next_token(boundaries, r.n, p))
 }
 
 // How many records a list of all tokens takes, or what refuses a list with `room` for so many.
@@ -74,7 +74,7 @@ fn needed(
     tag_bytes: &[u8],
     room: usize,
 ) -> Number
-    ensures { λ a. ⌜ a ≡ countOf r (buffers (now (text .entry)) (now (types .entry)) (now (boundaries .entry)) (now («char_pos» .entry)) (now («byte_pos» .entry)) (now («cell_starts» .entry)) (now («cell_lengths» .entry)) (now («tag_bytes» .entry))) room ⌝ }
+    ensures { λ a. ⌜ a ≡ countOf r (lentBefore text types boundaries «char_pos» «byte_pos» «cell_starts» «cell_lengths» «tag_bytes») room ⌝ }
 {
     if !sheet::check(
         r,
@@ -92,7 +92,7 @@ fn needed(
             place: 0,
         });
     }
-    let count = given::count_tokens(boundaries, r.n);
+    let count = unchecked::count_tokens(boundaries, r.n);
     if room < count {
         return Number::Refused(Refusal {
             number: 12,
@@ -125,7 +125,8 @@ pub fn token_list(
     tag_bytes: &[u8],
     list: &mut [Token],
 ) -> Number
-    ensures { λ a. ⌜ Listed r (buffers (now (text .entry)) (now (types .entry)) (now (boundaries .entry)) (now («char_pos» .entry)) (now («byte_pos» .entry)) (now («cell_starts» .entry)) (now («cell_lengths» .entry)) (now («tag_bytes» .entry))) (now (list .entry)) a (now (list .exit)) ⌝ }
+    ensures { λ a. ⌜ Listed r (lentBefore text types boundaries «char_pos» «byte_pos» «cell_starts» «cell_lengths» «tag_bytes») (now (list .entry)) a
+        (now (list .exit)) ⌝ }
 {
     let answer = needed(
         r,
@@ -143,7 +144,7 @@ pub fn token_list(
     let mut p: u16 = 0;
     let mut i: usize = 0;
     while i < count {
-        let t = given::token_from(boundaries, r.n, p);
+        let t = unchecked::token_from(boundaries, r.n, p);
         list[i] = t;
         p = t.end;
         i += 1;

@@ -16,7 +16,7 @@ use Rattle.laws.proofs.Facts.{reads, or-is, untrue}
 use Rattle.laws.proofs.Sized.{by-size}
 use Rattle.utf8.specs.declared.Decoded.{Decoded}
 use Rattle.utf8.specs.declared.Decoded.the-variants.{Char, Bad, End}
-use Rattle.utf8.specs.declared.given.Encoded.{Encoded}
+use Rattle.utf8.specs.declared.unchecked.Encoded.{Encoded}
 use Rattle.utf8.specs.Utf8.{utf8-1, utf8-2, utf8-3, utf8-4, charOf, charAt, walk, chars, wholes, validPrefix, values, scalars, scalar, width, encode, encodes, size, filled}
 use Rattle.utf8.proofs.Walk.{walk-char, walk-bad, walk-end}
 

@@ -1,2 +1,3 @@
 pub mod Utf8
 pub mod Examples
+pub mod Text

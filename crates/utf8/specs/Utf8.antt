@@ -7,7 +7,7 @@ use lib.ListN.{length, getD, take, drop}
 use lib.Dec.{leb, ltb, eqb}
 use Rattle.utf8.specs.declared.Decoded.{Decoded}
 use Rattle.utf8.specs.declared.Decoded.the-variants.{Char, Bad, End}
-use Rattle.utf8.specs.declared.given.Encoded.{Encoded}
+use Rattle.utf8.specs.declared.unchecked.Encoded.{Encoded}
 
 -- %xLO-HI
 abbrev pub within : ℕ → ℕ → ℕ → Bool

@@ -19,9 +19,9 @@ use Rattle.sheet.specs.Layout.{Buffers, Sheet}
 use Rattle.sheet.specs.Check.{isSheet}
 use Rattle.sheet.proofs.Exact.{is-sheet}
 use Rattle.sheet.proofs.Look.{checked, passed}
-use Rattle.escape.specs.Wrote.{Lined}
-use Rattle.pieces.specs.Pieces.{shortOf}
-use Rattle.pieces.proofs.Room.{short-none, short-some}
+use Rattle.write_escape.specs.Wrote.{Lined}
+use Rattle.write_items.specs.Items.{shortOf}
+use Rattle.write_items.proofs.Room.{short-none, short-some}
 use Rattle.write.specs.Answers.{lineOf, writeOrder, Written}
 
 -- ---- the answers of a call that writes a line: `outside` is whether a number is out of range

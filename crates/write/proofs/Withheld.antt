@@ -25,11 +25,11 @@ use Rattle.sheet.specs.Layout.{Buffers, spell, Sheet}
 use Rattle.sheet.specs.Check.{isSheet}
 use Rattle.sheet.proofs.Exact.{holds-is, is-sheet}
 use Rattle.sheet.proofs.Look.{bounds, checked, passed}
-use Rattle.escape.specs.Wrote.{Lined}
-use Rattle.pieces.specs.Pieces.{shortOf}
-use Rattle.pieces.proofs.Room.{short-none}
-use Rattle.partial.specs.Line.{shownOf, Asked}
-use Rattle.partial.proofs.Widest.{columns-few}
+use Rattle.write_escape.specs.Wrote.{Lined}
+use Rattle.write_items.specs.Items.{shortOf}
+use Rattle.write_items.proofs.Room.{short-none}
+use Rattle.write_partial.specs.Line.{shownOf, Asked}
+use Rattle.write_partial.proofs.Widest.{columns-few}
 use Rattle.write.specs.Answers.{copyOf, noRange, withholdOrder, Withholds}
 use Rattle.write.proofs.Laws.{Settled, settle-13, settle-14, settle-12, settle-line}
 

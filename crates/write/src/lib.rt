@@ -1,20 +1,20 @@
 // The writers of any sheet: each answers the length of the line that it wrote at the front of the output, or 13, or 12 at the length needed; with a
 // range 14 at its start comes between.
-use partial::given::columns_shown;
-use partial::given::partial_into;
-use partial::given::partial_short;
-use partial::given::shown_into;
-use partial::given::shown_short;
 use sentence::Refusal;
 use sheet::Number;
 use sheet::Record;
-use tokenized::given::tokenized_into;
-use tokenized::given::tokenized_short;
+use write_partial::unchecked::columns_shown;
+use write_partial::unchecked::partial_into;
+use write_partial::unchecked::partial_short;
+use write_partial::unchecked::shown_into;
+use write_partial::unchecked::shown_short;
+use write_tokenized::unchecked::tokenized_into;
+use write_tokenized::unchecked::tokenized_short;
 ghost use mathlib.Core.Path.{_≡_};
 ghost use Rattle.sentence.specs.Reading.{tokenized, partial};
 ghost use Rattle.sentence.specs.Refusals.{refusal};
 ghost use Rattle.sheet.specs.declared.Number.the-variants.{Refused};
-ghost use Rattle.sheet.specs.Layout.{buffers};
+ghost use Rattle.sheet.specs.Layout.{lentBefore};
 ghost use Rattle.write.specs.Answers.{noRange, Written, Withholds, Keyed};
 
 // 13: the record and the buffers are no sheet.
@@ -70,7 +70,8 @@ pub fn write_tokenized_text(
     tag_bytes: &[u8],
     out: &mut [u8],
 ) -> Number
-    ensures { λ a. ⌜ Written tokenized r (buffers (now (text .entry)) (now (types .entry)) (now (boundaries .entry)) (now («char_pos» .entry)) (now («byte_pos» .entry)) (now («cell_starts» .entry)) (now («cell_lengths» .entry)) (now («tag_bytes» .entry))) (now (out .entry)) a (now (out .exit)) ⌝ }
+    ensures { λ a. ⌜ Written tokenized r (lentBefore text types boundaries «char_pos» «byte_pos» «cell_starts» «cell_lengths» «tag_bytes»)
+        (now (out .entry)) a (now (out .exit)) ⌝ }
 {
     if !sheet::check(
         r,
@@ -128,7 +129,8 @@ pub fn write_partial_annotation_text(
     tag_bytes: &[u8],
     out: &mut [u8],
 ) -> Number
-    ensures { λ a. ⌜ Written partial r (buffers (now (text .entry)) (now (types .entry)) (now (boundaries .entry)) (now («char_pos» .entry)) (now («byte_pos» .entry)) (now («cell_starts» .entry)) (now («cell_lengths» .entry)) (now («tag_bytes» .entry))) (now (out .entry)) a (now (out .exit)) ⌝ }
+    ensures { λ a. ⌜ Written partial r (lentBefore text types boundaries «char_pos» «byte_pos» «cell_starts» «cell_lengths» «tag_bytes») (now (out .entry))
+        a (now (out .exit)) ⌝ }
 {
     if !sheet::check(
         r,
@@ -189,7 +191,8 @@ pub fn write_withheld_text(
     end: usize,
     out: &mut [u8],
 ) -> Number
-    ensures { λ a. ⌜ Withholds r (buffers (now (text .entry)) (now (types .entry)) (now (boundaries .entry)) (now («char_pos» .entry)) (now («byte_pos» .entry)) (now («cell_starts» .entry)) (now («cell_lengths» .entry)) (now («tag_bytes» .entry))) start end (now (out .entry)) a (now (out .exit)) ⌝ }
+    ensures { λ a. ⌜ Withholds r (lentBefore text types boundaries «char_pos» «byte_pos» «cell_starts» «cell_lengths» «tag_bytes») start end
+        (now (out .entry)) a (now (out .exit)) ⌝ }
 {
     if !sheet::check(
         r,
@@ -269,7 +272,8 @@ pub fn note_key(
     tag_bytes: &[u8],
     out: &mut [u8],
 ) -> Number
-    ensures { λ a. ⌜ Keyed r (buffers (now (text .entry)) (now (types .entry)) (now (boundaries .entry)) (now («char_pos» .entry)) (now («byte_pos» .entry)) (now («cell_starts» .entry)) (now («cell_lengths» .entry)) (now («tag_bytes» .entry))) (now (out .entry)) a (now (out .exit)) ⌝ }
+    ensures { λ a. ⌜ Keyed r (lentBefore text types boundaries «char_pos» «byte_pos» «cell_starts» «cell_lengths» «tag_bytes») (now (out .entry)) a
+        (now (out .exit)) ⌝ }
 {
     write_withheld_text(
         r,

@@ -1,7 +1,7 @@
 -- `exports::form_of` meets its contract. Assumes nothing.
-use Rattle.reader.specs.Flags as flags
-use Rattle.passage.specs.Between.{formOf}
-use Rattle.passage.proofs.Written.{is-partial}
+use Rattle.read_state.specs.Flags as flags
+use Rattle.convert_buffers.specs.Between.{formOf}
+use Rattle.convert_buffers.proofs.Written.{is-partial}
 use Rattle.exports.proofs.form_of.Statement.{statement}
 use Rattle.exports.proofs.form_of.Tie as tie
 

@@ -2,7 +2,7 @@
 use Prim.Native.Nat.{_≤_}
 use lib.Dec.{leb, ltb}
 -- `lookups::surface` meets its contract. Assumes nothing.
-use Rattle.sheet.specs.declared.Part.the-variants.{Refused}
+use Rattle.sheet.specs.declared.Slice.the-variants.{Refused}
 use native.Mathlib.Omega.{arith}
 use borrow.Author.Tests.{leb-false, ltb-false}
 use Rattle.sheet.proofs.Look.{neither, broken, outside, inside, checked, bounds}

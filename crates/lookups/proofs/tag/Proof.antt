@@ -1,5 +1,5 @@
 -- `lookups::tag` meets its contract. Assumes nothing.
-use Rattle.sheet.specs.declared.Part.the-variants.{Refused}
+use Rattle.sheet.specs.declared.Slice.the-variants.{Refused}
 use Rattle.sheet.proofs.Look.{broken, outside, inside, checked, bounds}
 use Rattle.lookups.specs.Answers.{tagAt}
 use Rattle.lookups.proofs.Laws.{in-table}

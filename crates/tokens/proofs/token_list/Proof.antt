@@ -72,10 +72,10 @@ use Rattle.tokens.proofs.filled as filled
 use Rattle.tokens.proofs.filled.Symbol as filled-def
 use Rattle.tokens.proofs.filled.Symbol.{name as #tokens·filled}
 use Rattle.tokens.proofs.filled.Met as filled-thm
-use Rattle.tokens.proofs.given.token_from as from-at
-use Rattle.tokens.proofs.given.token_from.Symbol as from-def
-use Rattle.tokens.proofs.given.token_from.Symbol.{name as #tokens·given·token-from}
-use Rattle.tokens.proofs.given.token_from.Met as from-thm
+use Rattle.tokens.proofs.unchecked.token_from as from-at
+use Rattle.tokens.proofs.unchecked.token_from.Symbol as from-def
+use Rattle.tokens.proofs.unchecked.token_from.Symbol.{name as #tokens·unchecked·token-from}
+use Rattle.tokens.proofs.unchecked.token_from.Met as from-thm
 use Rattle.tokens.proofs.token_list.Key.{name as #tokens·token-list}
 use Rattle.tokens.proofs.token_list as f
 use Rattle.tokens.proofs.token_list.Statement as stated
@@ -325,7 +325,7 @@ module _ {M : Type 1} (𝓤 : URA M) (H : Heap 𝓤) (A : Atoms 𝓤) (W : Given
     abbrev Kept : List (Item 𝓤)
     Kept = has places l₁₀ sl (has (shared 7 w8) l₉ s₇ (has (shared 6 w16) l₈ s₆ (has (shared 5 w16) l₇ s₅ (has (shared 4 w16) l₆ s₄ (has (shared 3 w16) l₅ s₃ (has (shared 2 w8) l₄ s₂ (has (shared 1 w8) l₃ s₁ (has (shared 0 w8) l₂ s₀ (has R′.mir l₁ rv (bare N′.mir l₀ []))))))))))
 
-    module _ (𝓣 : Tables 𝓤 H) (known : Triple 𝓤 (𝓣 .C #tokens·given·token-from) (From 𝓤 H A mem run)) (ans : Number) (v : Val) (ans-is : Is N.the-row ans (v ∷ [])) (is-ans : ans ≡ countOf r D (length ys)) where
+    module _ (𝓣 : Tables 𝓤 H) (known : Triple 𝓤 (𝓣 .C #tokens·unchecked·token-from) (From 𝓤 H A mem run)) (ans : Number) (v : Val) (ans-is : Is N.the-row ans (v ∷ [])) (is-ans : ans ≡ countOf r D (length ys)) where
       abbrev C : Calls 𝓤 H
       C = 𝓣 .C
 
@@ -426,7 +426,7 @@ module _ {M : Type 1} (𝓤 : URA M) (H : Heap 𝓤) (A : Atoms 𝓤) (W : Given
           rewrite ! 19 (λ (z : Val). ‵ (fat fullShare word l₁₂ 0 z)) (ap only (uint-tells w64 k (w ∷ []) k-is) ∙ ap (vint w64) (is-k ∙ ap filledOf is-ans)) refl $ drop ! $ opens))))
 
     -- `needed` answers
-    begins : (𝓣 : Tables 𝓤 H) → Triple 𝓤 (𝓣 .C #tokens·needed) (Needed 𝓤 H A mem run) → Triple 𝓤 (𝓣 .C #tokens·filled) (Filled 𝓤 H A mem run) → Triple 𝓤 (𝓣 .C #tokens·given·token-from) (From 𝓤 H A mem run)
+    begins : (𝓣 : Tables 𝓤 H) → Triple 𝓤 (𝓣 .C #tokens·needed) (Needed 𝓤 H A mem run) → Triple 𝓤 (𝓣 .C #tokens·filled) (Filled 𝓤 H A mem run) → Triple 𝓤 (𝓣 .C #tokens·unchecked·token-from) (From 𝓤 H A mem run)
         → Sq W (lifetimes 9 κs qs ∷ ‵ (owns Params (args ys) vals) ∷ bare tyPtr l₁₉ (bare word l₁₈ (bare tyBool l₁₇ (bare word l₁₆ (bare Tok′.mir l₁₅ (bare word l₁₄ (bare half l₁₃ (bare word l₁₂ (bare N′.mir l₁₁ Kept))))))))) (runs (𝓣 .C) (𝓣 .Λ) En fn.t-1 (atRet En Post))
     begins 𝓣 known-needed known-filled known-from =
         assigns ! (of-opd ! (load ! (from ! (fld ! refl (stop !))) (look-in ! 20 (sub ! 1 refl (whole !))))) (from ! (stop !)) (init ! 8 refl (tt, record { fits = room .0 })) $
@@ -442,7 +442,7 @@ module _ {M : Type 1} (𝓤 : URA M) (H : Heap 𝓤) (A : Atoms 𝓤) (W : Given
         counts 𝓣 known-from ans v ans-is is-ans known-filled))))
 
   -- ---- the whole
-  walk : (𝓣 : Tables 𝓤 H) → Triple 𝓤 (𝓣 .C #tokens·needed) (Needed 𝓤 H A mem run) → Triple 𝓤 (𝓣 .C #tokens·filled) (Filled 𝓤 H A mem run) → Triple 𝓤 (𝓣 .C #tokens·given·token-from) (From 𝓤 H A mem run)
+  walk : (𝓣 : Tables 𝓤 H) → Triple 𝓤 (𝓣 .C #tokens·needed) (Needed 𝓤 H A mem run) → Triple 𝓤 (𝓣 .C #tokens·filled) (Filled 𝓤 H A mem run) → Triple 𝓤 (𝓣 .C #tokens·unchecked·token-from) (From 𝓤 H A mem run)
       → ent 𝓤 (onEntry 𝓤 H A f.signature κs qs (args ys) vals) (WpFn 𝓤 H (𝓣 .C) (𝓣 .Λ) code.function (rv ∷ s₀ ∷ s₁ ∷ s₂ ∷ s₃ ∷ s₄ ∷ s₅ ∷ s₆ ∷ s₇ ∷ sl ∷ []) Post)
   walk 𝓣 known-needed known-filled known-from =
       qed W (lifetimes 9 κs qs ∷ ‵ (owns Params (args ys) vals) ∷ []) ∵ enter ! (𝓣 .C) (𝓣 .Λ) code.function (rv ∷ s₀ ∷ s₁ ∷ s₂ ∷ s₃ ∷ s₄ ∷ s₅ ∷ s₆ ∷ s₇ ∷ sl ∷ []) _ $
@@ -451,7 +451,7 @@ module _ {M : Type 1} (𝓤 : URA M) (H : Heap 𝓤) (A : Atoms 𝓤) (W : Given
       move ! (40 ∷ 41 ∷ []) $ begins l₀ l₁ l₂ l₃ l₄ l₅ l₆ l₇ l₈ l₉ l₁₀ l₁₁ l₁₂ l₁₃ l₁₄ l₁₅ l₁₆ l₁₇ l₁₈ l₁₉ 𝓣 known-needed known-filled known-from))))))))))))))))))))
 
 module _ {M : Type 1} (𝓤 : URA M) (H : Heap 𝓤) (A : Atoms 𝓤) (W : Given 𝓤 H A) (mem : Memory → SProp 𝓤) (run : Routine → Fun 𝓤) where
-  token-list-walks : (𝓣 : Tables 𝓤 H) → Triple 𝓤 (𝓣 .C #tokens·needed) (Needed 𝓤 H A mem run) → Triple 𝓤 (𝓣 .C #tokens·filled) (Filled 𝓤 H A mem run) → Triple 𝓤 (𝓣 .C #tokens·given·token-from) (From 𝓤 H A mem run) → Walks 𝓤 H A f.ended stayed (WpFn 𝓤 H (𝓣 .C) (𝓣 .Λ) code.function) (f.clauses 𝓤 H A mem run)
+  token-list-walks : (𝓣 : Tables 𝓤 H) → Triple 𝓤 (𝓣 .C #tokens·needed) (Needed 𝓤 H A mem run) → Triple 𝓤 (𝓣 .C #tokens·filled) (Filled 𝓤 H A mem run) → Triple 𝓤 (𝓣 .C #tokens·unchecked·token-from) (From 𝓤 H A mem run) → Walks 𝓤 H A f.ended stayed (WpFn 𝓤 H (𝓣 .C) (𝓣 .Λ) code.function) (f.clauses 𝓤 H A mem run)
   token-list-walks 𝓣 known-needed known-filled known-from = walked 𝓤 H A f.ended stayed (f.clauses 𝓤 H A mem run) (WpFn 𝓤 H (𝓣 .C) (𝓣 .Λ) code.function)
       (λ κs. (LL.vals R.the-type R′.the-laws, (slice-vals, (slice-vals, (slice-vals, (slice-vals, (slice-vals, (slice-vals, (slice-vals, (slice-vals, (slice-vals, tt)))))))))))
       (λ κs. (LL.tells R.the-type R′.the-laws, (shr-slice-tells (named 0) (κs .0) u8, (shr-slice-tells (named 1) (κs .1 .0) u8, (shr-slice-tells (named 2) (κs .1 .1 .0) u8, (shr-slice-tells (named 3) (κs .1 .1 .1 .0) u16, (shr-slice-tells (named 4) (κs .1 .1 .1 .1 .0) u16, (shr-slice-tells (named 5) (κs .1 .1 .1 .1 .1 .0) u16, (shr-slice-tells (named 6) (κs .1 .1 .1 .1 .1 .1 .0) u16, (shr-slice-tells (named 7) (κs .1 .1 .1 .1 .1 .1 .1 .0) u8, (mut-slice-tells (named 8) (κs .1 .1 .1 .1 .1 .1 .1 .1 .0) Tok.the-row, tt)))))))))))
@@ -467,7 +467,7 @@ module _ {M : Type 1} (𝓤 : URA M) (H : Heap 𝓤) (A : Atoms 𝓤) (W : Given
   goes = (goes-none 𝓤 H A W 9 (λ _. R.the-row) yes (λ κs x f. refl), (goes-none-slice 𝓤 H A W 9 (0 ∷ []) tt (plain (λ _. u8)) yes, (goes-none-slice 𝓤 H A W 9 (1 ∷ []) tt (plain (λ _. u8)) yes, (goes-none-slice 𝓤 H A W 9 (2 ∷ []) tt (plain (λ _. u8)) yes, (goes-none-slice 𝓤 H A W 9 (3 ∷ []) tt (plain (λ _. u16)) yes, (goes-none-slice 𝓤 H A W 9 (4 ∷ []) tt (plain (λ _. u16)) yes, (goes-none-slice 𝓤 H A W 9 (5 ∷ []) tt (plain (λ _. u16)) yes, (goes-none-slice 𝓤 H A W 9 (6 ∷ []) tt (plain (λ _. u16)) yes, (goes-none-slice 𝓤 H A W 9 (7 ∷ []) tt (plain (λ _. u8)) yes, (goes-slice 𝓤 H A W 9 8 tt (plain (λ _. Tok.the-row)), tt))))))))))
 
 token-list-meets : {M : Type 1} (𝓤 : URA M) (H : Heap 𝓤) (A : Atoms 𝓤) → Given 𝓤 H A → (mem : Memory → SProp 𝓤) (run : Routine → Fun 𝓤) (𝓣 : Tables 𝓤 H)
-    → Triple 𝓤 (𝓣 .C #tokens·needed) (Needed 𝓤 H A mem run) → Triple 𝓤 (𝓣 .C #tokens·filled) (Filled 𝓤 H A mem run) → Triple 𝓤 (𝓣 .C #tokens·given·token-from) (From 𝓤 H A mem run)
+    → Triple 𝓤 (𝓣 .C #tokens·needed) (Needed 𝓤 H A mem run) → Triple 𝓤 (𝓣 .C #tokens·filled) (Filled 𝓤 H A mem run) → Triple 𝓤 (𝓣 .C #tokens·unchecked·token-from) (From 𝓤 H A mem run)
     → Meets 𝓤 H A f.signature (WpFn 𝓤 H (𝓣 .C) (𝓣 .Λ) code.function) (f.spec 𝓤 H A mem run)
 token-list-meets 𝓤 H A W mem run 𝓣 known-needed known-filled known-from =
     walk-meets 𝓤 H A f.ended stayed W (goes 𝓤 H A W mem run) (f.clauses 𝓤 H A mem run)
@@ -481,4 +481,4 @@ token-list-spec 𝓤 H 𝓜 𝓖 𝓡 =
     (token-list-meets 𝓤 H (𝓖 .A) (givenOf 𝓤 H 𝓜 𝓖) (𝓜 .mem) (𝓡 .run) (tablesOf 𝓤 H 𝓜 (tables 𝓤 H 𝓜 𝓡 code.env))
     (cited 𝓤 H (Needed 𝓤 H (𝓖 .A) (𝓜 .mem) (𝓡 .run)) 𝓜 𝓡 code.env #tokens·needed needed-def.routine code.calls-tokens·needed (needed-thm.met 𝓤 H 𝓜 𝓖 𝓡))
     (cited 𝓤 H (Filled 𝓤 H (𝓖 .A) (𝓜 .mem) (𝓡 .run)) 𝓜 𝓡 code.env #tokens·filled filled-def.routine code.calls-tokens·filled (filled-thm.met 𝓤 H 𝓜 𝓖 𝓡))
-    (cited 𝓤 H (From 𝓤 H (𝓖 .A) (𝓜 .mem) (𝓡 .run)) 𝓜 𝓡 code.env #tokens·given·token-from from-def.routine code.calls-tokens·given·token-from (from-thm.met 𝓤 H 𝓜 𝓖 𝓡)))
+    (cited 𝓤 H (From 𝓤 H (𝓖 .A) (𝓜 .mem) (𝓡 .run)) 𝓜 𝓡 code.env #tokens·unchecked·token-from from-def.routine code.calls-tokens·unchecked·token-from (from-thm.met 𝓤 H 𝓜 𝓖 𝓡)))

@@ -1,0 +1,73 @@
+-- Buffers as long as a line, with as many cells as its sentence, have room for it. Assumes nothing.
+use Prim.Native.Nat.{ℕ, _+_, _-_, _≤_}
+use native.Mathlib.Omega.{arith}
+use mathlib.Core.Path.{_≡_, refl, ap}
+use mathlib.Core.Bool.{true}
+use mathlib.Core.List.{List, [], _∷_}
+use lib.ListN.{length}
+use Rattle.laws.proofs.Facts.{reads}
+use Rattle.utf8.specs.Utf8.{size}
+use Rattle.utf8.proofs.Codec.{width-small}
+use Rattle.sentence.specs.Sentence.{Sentence, text}
+use Rattle.sentence.specs.Reading.{Form, Result, sentence, refused, read}
+use Rattle.sentence.proofs.Shape.{read-formed, read-light}
+use Rattle.sheet.specs.Layout.{Buffers, recordOf, roomFor, spell, Holds, Sheet}
+use Rattle.sheet.specs.declared.Record.{Record}
+use Rattle.sheet.specs.declared.Answer.the-variants as answer
+use Rattle.sheet.proofs.Held.{laid-holds, spelled}
+use Rattle.read_scan.specs.Scan.{scanned}
+use Rattle.read_fill.specs.Fill.{Fits, filled, Same}
+use Rattle.convert_buffers.specs.Through.{Scanned, Wide}
+
+-- a character takes a byte at least
+pub count-size : (cs : List ℕ) → length cs ≤ size cs
+unfolding size
+count-size [] = omega arith
+count-size (c ∷ cs) = omega (arith, width-small c, count-size cs)
+
+wide-room : (f : Form) (x : List ℕ) (s : Sentence) (d : Buffers) → read f x ≡ sentence s → Wide (length x) (recordOf s .cells) d → roomFor (recordOf s) d ≡ true
+unfolding roomFor recordOf
+wide-room f x s d e w = simp reads (omega (arith, read-light f x s e, count-size (text s), w))
+
+-- buffers that are the same one by one
+same-is : {b e : Buffers} → Same b e → e ≡ b
+same-is m = λ i. record {
+  text-buf = m .text-is i;
+  types-buf = m .types-is i;
+  boundaries-buf = m .boundaries-is i;
+  char-pos-buf = m .char-pos-is i;
+  byte-pos-buf = m .byte-pos-is i;
+  cell-starts-buf = m .cell-starts-is i;
+  cell-lengths-buf = m .cell-lengths-is i;
+  tag-bytes-buf = m .tag-bytes-is i;
+}
+
+-- ---- the sentence of a line that was scanned
+pub record Found (x : Result) (r : Record) : Type 0 where
+  pub value : Sentence
+  pub was-read : x ≡ sentence value
+  pub record-is : r ≡ recordOf value
+
+pub found : (x : Result) {r : Record} → answer.Sentence r ≡ scanned x → Found x r
+unfolding scanned
+found (sentence s) e = record { value = s; was-read = refl; record-is = cc }
+found (refused n k) e = let z : _≡_ {A = ℕ} 0 1 = cc in absurd (omega arith)
+
+module _ (f : Form) (x : List ℕ) {r : Record} (p : Scanned (read f x) r) {d : Buffers} (w : Wide (length x) (r .cells) d) where
+  enough : (t : Found (read f x) r) → roomFor (recordOf (t .value)) d ≡ true
+  enough t = wide-room f x (t .value) d (t .was-read) (rw (t .record-is) at w)
+
+  pub fill-fits : Fits (read f x) (r .columns) d
+  unfolding recordOf
+  fill-fits = let t = found (read f x) (p .record-is) in rw (t .was-read) (ap (λ (q : Record). q .columns) (t .record-is), enough t)
+
+  -- it is held where it was laid down
+  pub fill-holds : {b : Buffers} → Same (filled (read f x) d) b → (t : Found (read f x) r) → Holds r b (t .value)
+  unfolding filled
+  fill-holds h t = rw (same-is (rw (t .was-read) at h), t .record-is) (laid-holds (t .value) d ((read-formed f x (t .value) (t .was-read)) .0) (enough t))
+
+  pub fill-sheet : {b : Buffers} → Same (filled (read f x) d) b → Sheet r b
+  fill-sheet {b} h =
+      let t = found (read f x) (p .record-is) in
+      let k = fill-holds h t in
+      rw (spelled r b (t .value) k) k

@@ -1,0 +1,54 @@
+-- A sentence written where its line fits, and refused else. Assumes nothing.
+use Prim.Native.Nat.{ℕ, zero, suc, _≤_, _<_}
+use native.Mathlib.Omega.{arith}
+use native.Mathlib.Nat.{zero-add}
+use mathlib.Core.Path.{_≡_, refl, sym, ap, _∙_}
+use mathlib.Core.List.{List}
+use borrow.Author.Tests.{lt-ltb, le-ltb}
+use lib.ListN.{length}
+use Rattle.laws.specs.If.{if_then_else_, if-true, if-false}
+use Rattle.write_escape.specs.Wrote.{Lined}
+use Rattle.write_items.specs.Items.{shortOf}
+use Rattle.write_items.proofs.Room.{short-none, short-some}
+use Rattle.sentence.specs.Sentence.{Sentence}
+use Rattle.sentence.specs.Reading.{Form, raw, tokenized, partial}
+use Rattle.sentence.specs.Writing.{written}
+use Rattle.sentence.specs.Refusals.{refusal, verdict}
+use Rattle.convert_buffers.specs.Between.{Outcome, writes, refuses, formOf, answerOf, outputOf, Converts}
+use Rattle.convert_buffers.specs.Through.{writing}
+use Rattle.convert_buffers.specs.declared.Converted.{Converted}
+use Rattle.convert_buffers.specs.declared.Converted.the-variants.{Wrote, Refused}
+
+-- n is the length that is lacking
+module _ (g : Form) (s : Sentence) (out : List ℕ) {n : ℕ} (e : n ≡ shortOf (length out) (length (written g s))) where
+  pub writing-short : 0 < n → Converts (λ (c : Converted). c) (writing g (length out) s) 0 out (Refused (refusal 12 n)) out
+  unfolding writing verdict answerOf outputOf
+  writing-short h =
+      let k = short-some (length out) (length (written g s)) e h in
+      rw (if-true _ _ _ (lt-ltb (length out) (length (written g s)) (k .1)), k .0) (record { answer = refl; output = refl })
+
+  pub writing-room : n ≤ 0 → length (written g s) ≤ length out
+  writing-room h = short-none (length out) (length (written g s)) e h
+
+  pub writing-done : {end : List ℕ} {m : ℕ} → n ≤ 0 → Lined (written g s) out end m → Converts (λ (c : Converted). c) (writing g (length out) s) 0 out (Wrote m) end
+  unfolding writing verdict answerOf outputOf
+  writing-done h l =
+      rw (if-false _ _ _ (le-ltb (length out) (length (written g s)) (writing-room h)))
+      (record { answer = ap Wrote (l .length-is ∙ sym (zero-add _)); output = l .out-is })
+
+-- ---- the form of a number
+pub is-partial : (n : ℕ) → (n ≡ 0 → ⊥) → (n ≡ 1 → ⊥) → partial ≡ formOf n
+unfolding formOf
+is-partial zero a b = absurd (a refl)
+is-partial (suc zero) a b = absurd (b refl)
+is-partial (suc (suc n)) a b = refl
+
+module _ (writer : ℕ) (s : Sentence) {out end : List ℕ} {r : Converted} where
+  pub as-tokenized : writer ≡ 1
+      → Converts (λ (c : Converted). c) (writing tokenized (length out) s) 0 out r end → Converts (λ (c : Converted). c) (writing (formOf writer) (length out) s) 0 out r end
+  unfolding formOf
+  as-tokenized e p = rw e p
+
+  pub as-partial : (writer ≡ 0 → ⊥) → (writer ≡ 1 → ⊥)
+      → Converts (λ (c : Converted). c) (writing partial (length out) s) 0 out r end → Converts (λ (c : Converted). c) (writing (formOf writer) (length out) s) 0 out r end
+  as-partial a b p = rw (is-partial writer a b) at p

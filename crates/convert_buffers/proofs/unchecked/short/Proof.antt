@@ -1,0 +1,66 @@
+-- `passage::unchecked::short` meets its contract: its arrays are wide enough for 256 bytes and 256 cells. Assumes nothing.
+use borrow.Author.Needs.{needs}
+use Rattle.convert_buffers.proofs.unchecked.short.Statement.{statement}
+use Rattle.convert_buffers.proofs.unchecked.short.Tie as tie
+
+slice-aggregate-through : tie.Need-slice-aggregate-through
+slice-aggregate-through c = search needs
+
+slice-aggregate-through-2 : tie.Need-slice-aggregate-through-2
+slice-aggregate-through-2 c = search needs
+
+slice-aggregate-through-3 : tie.Need-slice-aggregate-through-3
+slice-aggregate-through-3 c = search needs
+
+slice-aggregate-through-4 : tie.Need-slice-aggregate-through-4
+slice-aggregate-through-4 c = search needs
+
+slice-aggregate-through-5 : tie.Need-slice-aggregate-through-5
+slice-aggregate-through-5 c = search needs
+
+slice-aggregate-through-6 : tie.Need-slice-aggregate-through-6
+slice-aggregate-through-6 c = search needs
+
+slice-aggregate-through-7 : tie.Need-slice-aggregate-through-7
+slice-aggregate-through-7 c = search needs
+
+slice-aggregate-through-8 : tie.Need-slice-aggregate-through-8
+slice-aggregate-through-8 c = search needs
+
+through-requires : tie.Need-through-requires
+through-requires c κs = (
+  search needs,
+  search needs,
+  record {
+    text-wide = search needs;
+    types-wide = search needs;
+    boundaries-wide = search needs;
+    char-pos-wide = search needs;
+    byte-pos-wide = search needs;
+    cell-starts-wide = search needs;
+    cell-lengths-wide = search needs;
+    tag-bytes-wide = search needs;
+  },
+)
+
+same-length : tie.Need-same-length
+same-length c = search needs
+
+returns : tie.Need-returns
+returns c = search needs
+
+pub short-spec : {M : Type 1} → statement M
+short-spec =
+    tie.close
+    (tie.spec
+    slice-aggregate-through
+    slice-aggregate-through-2
+    slice-aggregate-through-3
+    slice-aggregate-through-4
+    slice-aggregate-through-5
+    slice-aggregate-through-6
+    slice-aggregate-through-7
+    slice-aggregate-through-8
+    through-requires
+    same-length
+    returns)

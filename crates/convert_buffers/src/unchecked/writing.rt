@@ -1,0 +1,163 @@
+// A sentence written from the buffers that hold it, where the output has room for its line.
+use crate::Converted;
+use sentence::Refusal;
+use sheet::Record;
+use write_partial::unchecked::partial_into;
+use write_partial::unchecked::partial_short;
+use write_tokenized::unchecked::tokenized_into;
+use write_tokenized::unchecked::tokenized_short;
+ghost use mathlib.Core.Path.{_≡_};
+ghost use lib.ListN.{length};
+ghost use Rattle.sentence.specs.Reading.{tokenized, partial};
+ghost use Rattle.sheet.specs.Layout.{spell, Sheet, lent, lentBefore};
+ghost use Rattle.convert_buffers.specs.Between.{formOf, Converts};
+ghost use Rattle.convert_buffers.specs.Through.{writing};
+
+// The tokenized line.
+fn tokenized_as(
+    r: Record,
+    text: &[u8],
+    types: &[u8],
+    boundaries: &[u8],
+    char_pos: &[u16],
+    byte_pos: &[u16],
+    cell_starts: &[u16],
+    cell_lengths: &[u16],
+    tag_bytes: &[u8],
+    out: &mut [u8],
+) -> Converted
+    requires { ⌜ Sheet r (lent text types boundaries «char_pos» «byte_pos» «cell_starts» «cell_lengths» «tag_bytes») ⌝ }
+    ensures { λ a. ⌜ Converts (λ (c : Converted). c) (writing tokenized (length (now (out .entry)))
+        (spell r (lentBefore text types boundaries «char_pos» «byte_pos» «cell_starts» «cell_lengths» «tag_bytes»))) 0 (now (out .entry)) a
+        (now (out .exit)) ⌝ }
+{
+    let needed = tokenized_short(
+        r,
+        text,
+        types,
+        boundaries,
+        char_pos,
+        byte_pos,
+        cell_starts,
+        cell_lengths,
+        tag_bytes,
+        out.len(),
+    );
+    if needed > 0 {
+        return Converted::Refused(Refusal {
+            number: 12,
+            place: needed,
+        });
+    }
+    let n = tokenized_into(
+        r,
+        text,
+        types,
+        boundaries,
+        char_pos,
+        byte_pos,
+        cell_starts,
+        cell_lengths,
+        tag_bytes,
+        out,
+    );
+    Converted::Wrote(n)
+}
+
+// The partial line.
+fn partial_as(
+    r: Record,
+    text: &[u8],
+    types: &[u8],
+    boundaries: &[u8],
+    char_pos: &[u16],
+    byte_pos: &[u16],
+    cell_starts: &[u16],
+    cell_lengths: &[u16],
+    tag_bytes: &[u8],
+    out: &mut [u8],
+) -> Converted
+    requires { ⌜ Sheet r (lent text types boundaries «char_pos» «byte_pos» «cell_starts» «cell_lengths» «tag_bytes») ⌝ }
+    ensures { λ a. ⌜ Converts (λ (c : Converted). c) (writing partial (length (now (out .entry)))
+        (spell r (lentBefore text types boundaries «char_pos» «byte_pos» «cell_starts» «cell_lengths» «tag_bytes»))) 0 (now (out .entry)) a
+        (now (out .exit)) ⌝ }
+{
+    let needed = partial_short(
+        r,
+        text,
+        types,
+        boundaries,
+        char_pos,
+        byte_pos,
+        cell_starts,
+        cell_lengths,
+        tag_bytes,
+        out.len(),
+    );
+    if needed > 0 {
+        return Converted::Refused(Refusal {
+            number: 12,
+            place: needed,
+        });
+    }
+    let n = partial_into(
+        r,
+        text,
+        types,
+        boundaries,
+        char_pos,
+        byte_pos,
+        cell_starts,
+        cell_lengths,
+        tag_bytes,
+        out,
+    );
+    Converted::Wrote(n)
+}
+
+// Writes a sentence in one of the two annotated forms.
+pub fn write_as(
+    writer: u32,
+    r: Record,
+    text: &[u8],
+    types: &[u8],
+    boundaries: &[u8],
+    char_pos: &[u16],
+    byte_pos: &[u16],
+    cell_starts: &[u16],
+    cell_lengths: &[u16],
+    tag_bytes: &[u8],
+    out: &mut [u8],
+) -> Converted
+    requires { ⌜ (writer ≡ 0 → ⊥) × Sheet r (lent text types boundaries «char_pos» «byte_pos» «cell_starts» «cell_lengths» «tag_bytes») ⌝ }
+    ensures { λ a. ⌜ Converts (λ (c : Converted). c) (writing (formOf writer) (length (now (out .entry)))
+        (spell r (lentBefore text types boundaries «char_pos» «byte_pos» «cell_starts» «cell_lengths» «tag_bytes»))) 0 (now (out .entry)) a
+        (now (out .exit)) ⌝ }
+{
+    if writer == 1 {
+        return tokenized_as(
+            r,
+            text,
+            types,
+            boundaries,
+            char_pos,
+            byte_pos,
+            cell_starts,
+            cell_lengths,
+            tag_bytes,
+            out,
+        );
+    }
+    partial_as(
+        r,
+        text,
+        types,
+        boundaries,
+        char_pos,
+        byte_pos,
+        cell_starts,
+        cell_lengths,
+        tag_bytes,
+        out,
+    )
+}

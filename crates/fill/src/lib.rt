@@ -1,2 +1,0 @@
-// Laying down the sentence of a line in eight lent buffers.
-pub mod given;

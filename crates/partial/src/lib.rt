@@ -1,2 +1,0 @@
-// The partial form of a checked sheet.
-pub mod given;

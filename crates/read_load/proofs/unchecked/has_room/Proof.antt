@@ -1,0 +1,20 @@
+use Rattle.read_load.specs.Load.{roomIn}
+use borrow.Author.Needs.{needs}
+use Rattle.read_load.proofs.unchecked.has_room.Statement.{statement}
+use Rattle.read_load.proofs.unchecked.has_room.Tie as tie
+
+sub-result : tie.Need-sub-result
+sub-result c = search needs
+
+add-result : tie.Need-add-result
+add-result c = search needs
+
+add-result-2 : tie.Need-add-result-2
+add-result-2 c = search needs
+
+returns : tie.Need-returns
+unfolding roomIn
+returns c = search needs
+
+pub has-room-spec : {M : Type 1} → statement M
+has-room-spec = tie.close (tie.spec sub-result add-result add-result-2 returns)

@@ -1,9 +1,0 @@
-use Rattle.reader.proofs.Places.{awaited}
-use Rattle.reader.proofs.State.awaits.Statement.{statement}
-use Rattle.reader.proofs.State.awaits.Tie as tie
-
-returns : tie.Need-returns
-returns c = awaited _
-
-pub awaits-spec : {M : Type 1} → statement M
-awaits-spec = tie.close (tie.spec returns)

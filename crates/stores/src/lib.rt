@@ -1,2 +1,0 @@
-// The stores that the acts of a line make in eight lent buffers.
-pub mod given;

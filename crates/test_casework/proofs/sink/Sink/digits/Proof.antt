@@ -1,0 +1,54 @@
+use Prim.Native.Nat.{_-_, _≤_}
+use borrow.Author.Needs.{needs}
+use lib.ListN.{length}
+use Rattle.test_casework.proofs.sink.Sink.digits.Statement.{statement}
+use Rattle.test_casework.proofs.sink.Sink.digits.Tie as tie
+
+abbrev Inv-loop : tie.InvT-loop
+Inv-loop s sink₀ i₀ sink i = i ≤ length s
+
+abbrev μ-loop : tie.MeasureT-loop
+μ-loop s sink₀ i₀ sink i = length s - i
+
+dot-requires : tie.Need-dot-requires Inv-loop μ-loop
+dot-requires c κs = search needs
+
+loop-holds : tie.Need-loop-holds Inv-loop μ-loop
+loop-holds c = search needs
+
+shared-slice-read-glyph : tie.Need-shared-slice-read-glyph Inv-loop μ-loop
+shared-slice-read-glyph c = search needs
+
+glyph-requires : tie.Need-glyph-requires Inv-loop μ-loop
+glyph-requires c κs = search needs
+
+put-requires : tie.Need-put-requires Inv-loop μ-loop
+put-requires c κs = search needs
+
+add-i : tie.Need-add-i Inv-loop μ-loop
+add-i c = search needs
+
+loop-less : tie.Need-loop-less Inv-loop μ-loop
+loop-less c = search needs
+
+loop-again : tie.Need-loop-again Inv-loop μ-loop
+loop-again c = search needs
+
+returns : tie.Need-returns Inv-loop μ-loop
+returns c = search needs
+
+pub digits-spec : {M : Type 1} → statement M
+digits-spec =
+    tie.close
+    (tie.spec
+    Inv-loop
+    μ-loop
+    dot-requires
+    loop-holds
+    shared-slice-read-glyph
+    glyph-requires
+    put-requires
+    add-i
+    loop-less
+    loop-again
+    returns)

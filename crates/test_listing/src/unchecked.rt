@@ -1,0 +1,72 @@
+// For a room of at most 64 records: functions that lend a local array of records to `token_list`.
+use sheet::Number;
+use sheet::Record;
+use tokens::Token;
+ghost use Prim.Native.Nat.{_≤_};
+ghost use mathlib.Core.Path.{_≡_};
+ghost use lib.ListN.{length};
+ghost use Rattle.sheet.specs.Layout.{lentBefore};
+ghost use Rattle.tokens.specs.Steps.{countOf};
+
+// The records of a list after it was filled with room for so many; every record held a mark before it.
+pub fn filled(
+    r: Record,
+    text: &[u8],
+    types: &[u8],
+    boundaries: &[u8],
+    char_pos: &[u16],
+    byte_pos: &[u16],
+    cell_starts: &[u16],
+    cell_lengths: &[u16],
+    tag_bytes: &[u8],
+    room: usize,
+) -> [Token; 64]
+    requires { ⌜ room ≤ 64 ⌝ }
+    ensures { λ a. ⌜ length a ≡ 64 ⌝ }
+{
+    let mut list = [Token { start: 1, end: 0 }; 64];
+    let _answer = tokens::token_list(
+        r,
+        text,
+        types,
+        boundaries,
+        char_pos,
+        byte_pos,
+        cell_starts,
+        cell_lengths,
+        tag_bytes,
+        &mut list[..room],
+    );
+    list
+}
+
+// What the same call answers.
+pub fn answered(
+    r: Record,
+    text: &[u8],
+    types: &[u8],
+    boundaries: &[u8],
+    char_pos: &[u16],
+    byte_pos: &[u16],
+    cell_starts: &[u16],
+    cell_lengths: &[u16],
+    tag_bytes: &[u8],
+    room: usize,
+) -> Number
+    requires { ⌜ room ≤ 64 ⌝ }
+    ensures { λ a. ⌜ a ≡ countOf r (lentBefore text types boundaries «char_pos» «byte_pos» «cell_starts» «cell_lengths» «tag_bytes») room ⌝ }
+{
+    let mut list = [Token { start: 1, end: 0 }; 64];
+    tokens::token_list(
+        r,
+        text,
+        types,
+        boundaries,
+        char_pos,
+        byte_pos,
+        cell_starts,
+        cell_lengths,
+        tag_bytes,
+        &mut list[..room],
+    )
+}

@@ -1,2 +1,0 @@
-// The tokenized form of a checked sheet.
-pub mod given;

@@ -1,0 +1,2 @@
+// The partial form of a checked sheet.
+pub mod unchecked;

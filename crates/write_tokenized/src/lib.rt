@@ -1,0 +1,2 @@
+// The tokenized form of a checked sheet.
+pub mod unchecked;
