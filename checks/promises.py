@@ -9,13 +9,17 @@ A function is a `pub fn` of crates/NAME/src, also one in an `impl`. Its name is 
 private and does not hand on with `pub use`, in a program (src/main.rt), or in a library of the programs that run cases (`test_casework`
 and each crate that leans on it, by crates.txt). Any other is public.
 
-- Each function stands in one row: a public one in a table of the section 'Public functions', an internal one in a table of the section
-  'Internal'. The first column has the names, in backquotes, one or more to a row. A name in it that is no function is a fault.
-- A public function has no `requires`, and an `ensures`. Its row says in the column 'uniqueness' that the equation settles it, or which law does.
-- An edit is cited as `crate/name`, in any table, and stands in crates/CRATE/must-fail or crates/CRATE/must-fail-further. Each edit
-  that stands there is cited at least once. In a column whose heading speaks of edits, what parentheses hold in backquotes is an edit.
+- Each function stands in one place. A public one has a block of the section 'Public functions': a heading `### ` with its name in backquotes, or
+  with several, and below it the items `- promise:`, `- settled by:`, `- ruled out:` and `- compared by:`. An internal one stands in an item of the section
+  'Internal', with one or more names in backquotes before its colon. A name in such a place that is no function is a fault.
+- A public function has no `requires`, and an `ensures`. Its block says under 'settled by' that the equation settles it, or which law does.
+- An edit is cited as `crate/name`, in any item or table, and stands in crates/CRATE/must-fail or crates/CRATE/must-fail-further. Each edit
+  that stands there is cited at least once. Under 'ruled out', and where an item's label or a column's heading speaks of edits, what parentheses hold
+  in backquotes is an edit.
 - Where `(crate, Module)` is cited, crates/CRATE has specs/Module.antt or proofs/Module.antt, and a name in backquotes right before it
   stands there; of an equation, the name behind its sign.
+
+An item or a paragraph goes on over the lines below it, up to a blank line, a heading, a table or the next item.
 """
 import os
 import re
@@ -24,6 +28,7 @@ from glob import glob
 
 PAGE = "docs/PROMISES.md"
 PUBLIC, INTERNAL = "Public functions", "Internal"
+LABELS = "promise", "settled by", "ruled out", "compared by"
 QUALIFIERS = r'(?:const\s+|unsafe\s+|extern\s+"C"\s+)*'
 
 
@@ -140,22 +145,40 @@ def leanings():
     return known
 
 
-def tables(page):
-    """Each row of each table: its line, its section, the table's headings, its cells."""
-    section, heads, rule = "", None, False
+class Said:
+    """A heading, an item, a cell of a table or a paragraph of the page, on one line: where it stands, and what it says."""
+
+    def __init__(self, number, section, kind, text, label=""):
+        self.at, self.section, self.kind, self.text, self.label = f"{PAGE}:{number}", section, kind, text, label
+
+
+def statements(page):
+    """What the page says, one after another. An item's label is what stands before its first colon, a cell's the heading of its column."""
+    said, section, heads, rule, goes_on = [], "", None, False, False
     for number, line in enumerate(page.split("\n"), 1):
-        if line.startswith("## "):
-            section = line[3:].strip()
+        item = re.match(r" *- +(.*)", line)
         if not line.startswith("|"):
             heads, rule = None, False
-            continue
-        cells = [c.strip() for c in re.split(r"(?<!\\)\|", line.strip())[1:-1]]
-        if heads is None:
-            heads = cells
-        elif not rule:
-            rule = True
-        else:
-            yield number, section, heads, cells
+        if line.startswith("#"):
+            level, text = re.match(r"(#+) *(.*)", line).groups()
+            section = text.strip() if level == "##" else section
+            said.append(Said(number, section, level, text.strip()))
+        elif line.startswith("|"):
+            cells = [c.strip() for c in re.split(r"(?<!\\)\|", line.strip())[1:-1]]
+            if heads and rule:
+                said += [Said(number, section, "cell", c, heads[i] if i < len(heads) else "") for i, c in enumerate(cells)]
+            heads, rule = heads or cells, bool(heads)
+        elif item:
+            said.append(Said(number, section, "item", item.group(1).strip()))
+        elif line.strip() and goes_on:
+            said[-1].text += " " + line.strip()
+        elif line.strip():
+            said.append(Said(number, section, "prose", line.strip()))
+        goes_on = bool(line.strip()) and line[0] not in "#|"
+    for one in said:
+        if one.kind == "item":
+            one.label = (re.match(r"([^:`]+): ", one.text) or [one.text, ""])[1]
+    return said
 
 
 def quoted(text):
@@ -163,39 +186,67 @@ def quoted(text):
     return re.findall(r"`([^`]+)`", text)
 
 
-def compare_functions(rows, functions, faults):
-    """The first columns of both sections against the sources."""
-    listed = {}
-    for number, section, heads, cells in rows:
-        if section not in (PUBLIC, INTERNAL):
+def places(said, faults):
+    """Each block of 'Public functions' and each item of 'Internal': where it stands, its section, its names, and of a block its items by their labels."""
+    found, block = [], None
+    for one in said:
+        if one.kind in ("#", "##"):
+            block = None
+        elif one.section not in (PUBLIC, INTERNAL):
             continue
-        at = f"{PAGE}:{number}"
-        names = quoted(cells[0])
-        once = dict(zip(heads, cells)).get("uniqueness", "")
-        if section == PUBLIC and not quoted(once) and not re.fullmatch("the equations?", once):
-            faults.append(f"{at}: the column 'uniqueness' says neither 'the equation' nor a law, in backquotes")
-        if not names:
-            faults.append(f"{at}: this row of '{section}' names no function in its first column")
+        elif one.kind == "###":
+            names = quoted(one.text)
+            block = (one.at, one.section, names, {}) if names else None
+            if names:
+                found.append(block)
+            elif one.section == PUBLIC:
+                faults.append(f"{one.at}: this heading of '{PUBLIC}' names no function in backquotes")
+        elif one.kind == "item" and one.section == INTERNAL and not block:
+            names = re.match(r"((?:`[^`]+`(?:, +)?)+): +\S", one.text)
+            if names:
+                found.append((one.at, INTERNAL, quoted(names[1]), {}))
+            else:
+                faults.append(f"{one.at}: this item of '{INTERNAL}' does not begin with names of functions in backquotes, a colon and a word on them")
+        elif one.kind == "item" and one.section == PUBLIC and not block:
+            faults.append(f"{one.at}: this item of '{PUBLIC}' stands in no function's block")
+        elif one.kind == "item" and one.section == PUBLIC and (one.label not in LABELS or one.label in block[3]):
+            faults.append(f"{one.at}: a block has one item for each of {', '.join(LABELS)}, and this is none of them, or one too many")
+        elif one.kind == "item" and block:
+            block[3][one.label] = one.text[len(one.label) + 1 :].strip()
+    return found
+
+
+def compare_functions(said, functions, faults):
+    """The blocks of the one section and the items of the other against the sources."""
+    listed = {}
+    for at, section, names, items in places(said, faults):
+        if section == PUBLIC:
+            for label in LABELS:
+                if label not in items:
+                    faults.append(f"{at}: the block of `{names[0]}` has no item '{label}:'")
+            once = items.get("settled by", "the equation")
+            if not quoted(once) and not re.fullmatch("the equations?", once):
+                faults.append(f"{at}: 'settled by' says neither 'the equation' nor a law, in backquotes")
         for name in names:
             if name in listed:
-                faults.append(f"{at}: `{name}` has a row already, {listed[name][0]}; take one away")
+                faults.append(f"{at}: `{name}` stands at {listed[name][0]} already; take one away")
                 continue
             listed[name] = at, section
             if name not in functions:
-                faults.append(f"{at}: there is no `pub fn` {name} in crates/*/src: take it out of the row, or name it as the sources do")
+                faults.append(f"{at}: there is no `pub fn` {name} in crates/*/src: take it out, or name it as the sources do")
     for name, f in sorted(functions.items()):
-        kind, section = ("internal", INTERNAL) if f.internal else ("public", PUBLIC)
+        kind, section, form = ("internal", INTERNAL, "an item") if f.internal else ("public", PUBLIC, "a block")
         if name not in listed:
-            faults.append(f"{f.place}: `{name}` is {kind} and has no row: add it to a table of '{section}' in {PAGE}")
+            faults.append(f"{f.place}: `{name}` is {kind} and is not there: give it {form} of '{section}' in {PAGE}")
         elif listed[name][1] != section:
-            faults.append(f"{listed[name][0]}: `{name}` is {kind} ({f.place}): move it to a table of '{section}'")
+            faults.append(f"{listed[name][0]}: `{name}` is {kind} ({f.place}): move it to {form} of '{section}'")
         if f.assumes and not f.internal:
             faults.append(f"{f.place}: `{name}` is public and has a `requires`: take it away, or move the function to a module `unchecked`")
         if not f.promises and not f.internal:
             faults.append(f"{f.place}: `{name}` is public and has no `ensures`: give it one, or move the function to a module `unchecked`")
 
 
-def compare_edits(rows, faults):
+def compare_edits(said, faults):
     """The edits that are cited against those that stand in the folders."""
     stand = {}
     for path in sorted(glob("crates/*/must-fail/*.edit") + glob("crates/*/must-fail-further/*.edit")):
@@ -206,25 +257,25 @@ def compare_edits(rows, faults):
         stand[name] = path
     bare = {name.split("/")[1] for name in stand}
     cited = set()
-    for number, _, heads, cells in rows:
-        at = f"{PAGE}:{number}"
-        for i, cell in enumerate(cells):
-            column = heads[i] if i < len(heads) else ""
-            held = {q for part in re.findall(r"\(([^()]*)\)", cell) for q in quoted(part)} if "edit" in column else set()
-            for name in quoted(cell):
-                if re.fullmatch(r"[a-z]\w*/\w+", name) and name.split("/")[0] not in ("crates", "host"):
-                    cited.add(name)
-                    if name not in stand:
-                        crate, edit = name.split("/")
-                        faults.append(
-                            f"{at}: the edit `{name}` is cited, and there is no {edit}.edit in crates/{crate}/must-fail or crates/{crate}/must-fail-further"
-                        )
-                elif name in bare:
-                    faults.append(f"{at}: the edit `{name}` is cited without its crate: write `crate/{name}`")
-                elif name in held:
-                    faults.append(f"{at}: `{name}` stands where an edit is cited, and is none: write `crate/name` of one that is there")
+    for one in said:
+        if one.kind not in ("item", "cell"):
+            continue
+        of_edits = one.label == "ruled out" or re.search(r"\bedits?\b", one.label)
+        held = {q for part in re.findall(r"\(([^()]*)\)", one.text) for q in quoted(part)} if of_edits else set()
+        for name in quoted(one.text):
+            if re.fullmatch(r"[a-z]\w*/\w+", name) and name.split("/")[0] not in ("crates", "host"):
+                cited.add(name)
+                if name not in stand:
+                    crate, edit = name.split("/")
+                    faults.append(
+                        f"{one.at}: the edit `{name}` is cited, and there is no {edit}.edit in crates/{crate}/must-fail or crates/{crate}/must-fail-further"
+                    )
+            elif name in bare:
+                faults.append(f"{one.at}: the edit `{name}` is cited without its crate: write `crate/{name}`")
+            elif name in held:
+                faults.append(f"{one.at}: `{name}` stands where an edit is cited, and is none: write `crate/name` of one that is there")
     for name in sorted(set(stand) - cited):
-        faults.append(f"{stand[name]}: the edit `{name}` is cited nowhere: cite it in the row of what it tries, in {PAGE}")
+        faults.append(f"{stand[name]}: the edit `{name}` is cited nowhere: cite it in the block of what it tries, in {PAGE}")
     return len(stand)
 
 
@@ -235,32 +286,31 @@ def module(crate, name):
     return "\n".join(found) if found else None
 
 
-def compare_modules(page, faults):
+def compare_modules(said, faults):
     """The modules that are cited as (crate, Module), and the names that stand before one."""
     names = 0
-    for number, line in enumerate(page.split("\n"), 1):
-        at = f"{PAGE}:{number}"
-        for crate, name in re.findall(r"[(;] ?([a-z]\w*), ([A-Z]\w*)", line):
+    for one in said:
+        for crate, name in re.findall(r"[(;] ?([a-z]\w*), ([A-Z]\w*)", one.text):
             if module(crate, name) is None:
-                faults.append(f"{at}: ({crate}, {name}) is cited, and crates/{crate} has neither specs/{name}.antt nor proofs/{name}.antt")
-        for cited, crate, name in re.findall(r"((?:`[^`]+`(?:, (?:and )?| and )?)+) \(([a-z]\w*), ([A-Z]\w*)\)", line):
-            for said in quoted(cited):
+                faults.append(f"{one.at}: ({crate}, {name}) is cited, and crates/{crate} has neither specs/{name}.antt nor proofs/{name}.antt")
+        for cited, crate, name in re.findall(r"((?:`[^`]+`(?:, (?:and )?| and )?)+) \(([a-z]\w*), ([A-Z]\w*)\)", one.text):
+            for word in quoted(cited):
                 names += 1
-                word = said.split("≡")[-1].split()[0]
+                word = word.split("≡")[-1].split()[0]
                 if not re.search(rf"(?<![\w′-]){re.escape(word)}(?![\w′-])", module(crate, name) or ""):
-                    faults.append(f"{at}: `{word}` is cited of ({crate}, {name}), and does not stand there: name where it is defined")
+                    faults.append(f"{one.at}: `{word}` is cited of ({crate}, {name}), and does not stand there: name where it is defined")
     return names
 
 
 def main():
     os.chdir(sys.argv[1] if len(sys.argv) > 1 else os.path.join(os.path.dirname(os.path.abspath(__file__)), ".."))
     faults = []
-    page = open(PAGE, encoding="utf-8").read()
-    rows = list(tables(page))
+    with open(PAGE, encoding="utf-8") as file:
+        said = statements(file.read())
     functions = sources(faults)
-    compare_functions(rows, functions, faults)
-    edits = compare_edits(rows, faults)
-    names = compare_modules(page, faults)
+    compare_functions(said, functions, faults)
+    edits = compare_edits(said, faults)
+    names = compare_modules(said, faults)
     for fault in faults:
         print(fault)
     internal = sum(f.internal for f in functions.values())
@@ -269,7 +319,8 @@ def main():
         faults.append("nothing was compared")
         print(faults[-1])
     print(
-        f"{len(functions)} functions compared, {public} public and {internal} internal; {edits} edits and {names} names of definitions and laws; {len(faults)} faults"
+        f"{len(functions)} functions compared, {public} public and {internal} internal; {edits} edits and {names} names of definitions and laws;"
+        f" {len(faults)} faults"
     )
     return 1 if faults else 0
 
