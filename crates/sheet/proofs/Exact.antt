@@ -19,9 +19,11 @@ use Rattle.sentence.proofs.Trips.{pad-whole}
 use Rattle.sheet_check.specs.Passes.{isText, areMarks, isCell, cellsTo, areCells}
 use Rattle.sheet_check.proofs.Says.{same-self, Plain, plain-is, is-plain, TextIs, text-is}
 use Rattle.sheet.specs.declared.Record.{Record}
-use Rattle.sheet.specs.Layout.{Buffers, recordOf, tagsOf, cellsOf, cellStarts, bytesOf, lay, roomFor, Front, Holds, slices, rowsBy, markOf, link, spell, Sheet}
+use Rattle.sheet.specs.Eight.{Which, the-text, the-types, the-boundaries, the-char-pos, the-byte-pos, the-cell-starts, the-cell-lengths, the-tag-bytes, Eight, part, each, Each}
+use Rattle.sheet.specs.Layout.{Buffers, recordOf, tagsOf, cellsOf, cellStarts, bytesOf, lay, needs, enough, roomFor, Front, Holds, slices, rowsBy, markOf, link, spell, Sheet}
 use Rattle.sheet.specs.Check.{inLimits, isLaid, Room, isSheet}
-use Rattle.sheet.proofs.Held.{length-marks, length-cellStarts, length-bytesOf, bytes-tagsOf, bytes-same, some-bytes, n-held, b-held, columns-held, cells-held, g-held, text-held, types-held, boundaries-held, char-pos-held, byte-pos-held, cell-starts-held, cell-lengths-held, tag-bytes-held, text-chars-held, cells-chars-held}
+use Rattle.sheet.proofs.Eights.{every, one, part-each, all-true, true-all}
+use Rattle.sheet.proofs.Held.{parts-held, length-marks, length-cellStarts, length-bytesOf, bytes-tagsOf, bytes-same, some-bytes, n-held, b-held, columns-held, cells-held, g-held, text-held, types-held, boundaries-held, char-pos-held, byte-pos-held, cell-starts-held, cell-lengths-held, tag-bytes-held, text-chars-held, cells-chars-held}
 
 -- ---- boundaries
 marks-are : (ms : List ℕ) → areMarks ms ≡ true → map code (map markOf ms) ≡ ms
@@ -155,9 +157,26 @@ pub limits-are : (r : Record) → inLimits r ≡ true → Limits r
 unfolding inLimits
 limits-are r = simp reads (omega arith)
 
+-- so much of each, and the room of the buffers
+enough-is : (n l : Eight ℕ) → enough n l ≡ true → Each _≤_ n l
+unfolding enough
+enough-is n l h = every (λ i. leb-true (part n i) (part l i) (one (true-all _ h) i))
+
+is-enough : (n l : Eight ℕ) → Each _≤_ n l → enough n l ≡ true
+unfolding enough
+is-enough n l h = all-true _ (every (λ i. le-leb (part n i) (part l i) (one h i)))
+
+pub has-room : (r : Record) (d : Buffers) → roomFor r d ≡ true → Each (λ n l. n ≤ length l) (needs r) d
+unfolding roomFor
+has-room r d h = every (λ i. rw (part-each length d i) at (one (enough-is (needs r) (each length d) h) i))
+
+pub room-has : (r : Record) (d : Buffers) → Each (λ n l. n ≤ length l) (needs r) d → roomFor r d ≡ true
+unfolding roomFor
+room-has r d h = is-enough (needs r) (each length d) (every (λ i. rw (part-each length d i) (one h i)))
+
 pub room-is : (r : Record) (d : Buffers) → inLimits r ≡ true → roomFor r d ≡ true → Room r d
-unfolding inLimits roomFor
-room-is r d = simp reads (omega arith)
+unfolding inLimits
+room-is r d = simp reads (λ l h. record { some = omega arith; room = has-room r d h })
 
 -- ---- a sentence that is held passes each test
 module _ (r : Record) (d : Buffers) (s : Sentence) (h : Holds r d s) where
@@ -175,18 +194,7 @@ module _ (r : Record) (d : Buffers) (s : Sentence) (h : Holds r d s) where
       )
 
   room-holds : roomFor r d ≡ true
-  unfolding roomFor
-  room-holds =
-      rw (
-        le-leb (r .b) (length (d .text-buf)) (text-held h .fits),
-        le-leb (r .n) (length (d .types-buf)) (types-held h .fits),
-        le-leb (r .n - 1) (length (d .boundaries-buf)) (boundaries-held h .fits),
-        le-leb (r .n + 1) (length (d .char-pos-buf)) (char-pos-held h .fits),
-        le-leb (r .b + 1) (length (d .byte-pos-buf)) (byte-pos-held h .fits),
-        le-leb (r .cells) (length (d .cell-starts-buf)) (cell-starts-held h .fits),
-        le-leb (r .cells) (length (d .cell-lengths-buf)) (cell-lengths-held h .fits),
-        le-leb (r .g) (length (d .tag-bytes-buf)) (tag-bytes-held h .fits),
-      )
+  room-holds = room-has r d (every (λ i. one (parts-held h) i .fits))
 
   text-holds : isText (take (r .b) (d .text-buf)) (take (r .n) (d .types-buf)) (take (r .n + 1) (d .char-pos-buf)) (take (r .b + 1) (d .byte-pos-buf)) ≡ true
   unfolding isText
@@ -234,20 +242,20 @@ record In (r : Record) (d : Buffers) (cs : List ℕ) (ms : List Mark) (ts : List
 
 module _ (r : Record) (d : Buffers) (cs : List ℕ) (ms : List Mark) (ts : List Tag) (rs : List (List Tag)) (h : In r d cs ms ts rs) where
   how-many : length cs ≡ r .n
-  how-many = omega (arith, ap length (h .text .types-are), length-map cs typeOf, length-take (r .n) (d .types-buf), h .room .types-room)
+  how-many = omega (arith, ap length (h .text .types-are), length-map cs typeOf, length-take (r .n) (d .types-buf), h .room .room .types-is)
 
   how-many-marks : length ms ≡ r .n - 1
-  how-many-marks = omega (arith, ap length (h .marks-are), length-map ms code, length-take (r .n - 1) (d .boundaries-buf), h .room .boundaries-room)
+  how-many-marks = omega (arith, ap length (h .marks-are), length-map ms code, length-take (r .n - 1) (d .boundaries-buf), h .room .room .boundaries-is)
 
   how-many-bytes : size cs ≡ r .b
-  how-many-bytes = omega (arith, length-encodes cs, ap length (h .text .bytes), length-take (r .b) (d .text-buf), h .room .text-room)
+  how-many-bytes = omega (arith, length-encodes cs, ap length (h .text .bytes), length-take (r .b) (d .text-buf), h .room .room .text-is)
 
   bytes-are : bytesOf (tagsOf rs) ≡ take (r .g) (d .tag-bytes-buf)
   bytes-are = sym (bytes-same (r .columns) rs) ∙ rw (h .rows-are .cells) (h .cells .bytes)
 
   how-many-tag-bytes : tagBytes rs ≡ r .g
   how-many-tag-bytes =
-      omega (arith, length-bytesOf (tagsOf rs), bytes-tagsOf rs, ap length bytes-are, length-take (r .g) (d .tag-bytes-buf), h .room .tag-bytes-room)
+      omega (arith, length-bytesOf (tagsOf rs), bytes-tagsOf rs, ap length bytes-are, length-take (r .g) (d .tag-bytes-buf), h .room .room .tag-bytes-is)
 
   are-linked : Linked (r .columns) cs ms rs (link cs ms rs)
   are-linked =
@@ -280,24 +288,29 @@ module _ (r : Record) (d : Buffers) (cs : List ℕ) (ms : List Mark) (ts : List 
           bytes-fit = omega (arith, g-is, h .limits);
         }
 
+    front : {f : List ℕ} (i : Which) → f ≡ take (part (needs r) i) (part d i) → Front f (part d i)
+    front i e = at-front _ _ (part (needs r) i) (one (h .room .room) i) e
+
     made : Holds r d (record { cells = x; columns = r .columns })
     unfolding lay recordOf
     made =
         record {
           formed = well-formed;
           record-is = λ i. record { n = n-is i; b = b-is i; columns = r .columns; cells = cells-is i; g = g-is i };
-          text-at = at-front _ _ (r .b) (h .room .text-room) (rw (k .text-is) (h .text .bytes));
-          types-at = at-front _ _ (r .n) (h .room .types-room) (rw (k .text-is) (h .text .types-are));
-          boundaries-at = at-front _ _ (r .n - 1) (h .room .boundaries-room) (rw (k .marks-is) (h .marks-are));
-          char-pos-at = at-front _ _ (r .n + 1) (h .room .char-pos-room) (rw (k .text-is) (h .text .starts-are));
-          byte-pos-at = at-front _ _ (r .b + 1) (h .room .byte-pos-room) (rw (k .text-is) (h .text .numbers-are));
-          cell-starts-at = at-front _ _ (r .cells) (h .room .cell-starts-room) (rw (k .rows-is, h .rows-are .cells) (h .cells .starts));
-          cell-lengths-at = at-front _ _ (r .cells) (h .room .cell-lengths-room) (rw (k .rows-is, h .rows-are .cells) (h .cells .lengths));
-          tag-bytes-at = at-front _ _ (r .g) (h .room .tag-bytes-room) (rw (k .rows-is) bytes-are);
+          lies = record {
+            text-is = front the-text (rw (k .text-is) (h .text .bytes));
+            types-is = front the-types (rw (k .text-is) (h .text .types-are));
+            boundaries-is = front the-boundaries (rw (k .marks-is) (h .marks-are));
+            char-pos-is = front the-char-pos (rw (k .text-is) (h .text .starts-are));
+            byte-pos-is = front the-byte-pos (rw (k .text-is) (h .text .numbers-are));
+            cell-starts-is = front the-cell-starts (rw (k .rows-is, h .rows-are .cells) (h .cells .starts));
+            cell-lengths-is = front the-cell-lengths (rw (k .rows-is, h .rows-are .cells) (h .cells .lengths));
+            tag-bytes-is = front the-tag-bytes (rw (k .rows-is) bytes-are);
+          };
         }
 
 how-many-cells : (r : Record) (d : Buffers) (ts : List Tag) → Limits r → Room r d → cellStarts 0 ts ≡ take (r .cells) (d .cell-starts-buf) → length ts ≡ r .n * r .columns
-how-many-cells r d ts l m e = omega (arith, length-cellStarts 0 ts, ap length e, length-take (r .cells) (d .cell-starts-buf), m .cell-starts-room, l .cells-are)
+how-many-cells r d ts l m e = omega (arith, length-cellStarts 0 ts, ap length e, length-take (r .cells) (d .cell-starts-buf), m .room .cell-starts-is, l .cells-are)
 
 -- where the test is true, the buffers hold what they spell
 pub is-sheet : (r : Record) (d : Buffers) → isSheet r d ≡ true → Sheet r d

@@ -6,31 +6,22 @@ use mathlib.Core.List.{List, [], _∷_, _++_, map, append-assoc, append-nil}
 use native.Mathlib.Omega.{arith}
 use lib.ListN.{length, take, replicate, length-append, length-map, length-take, take-append-drop}
 use lib.Seq.{take-append-seam, take-at, drop-at}
+use Rattle.laws.specs.Put.{over}
 use Rattle.laws.specs.All.{All, All-append, All-imp}
 use Rattle.utf8.specs.Utf8.{scalars, encodes, size}
 use Rattle.utf8.proofs.Codec.{length-encodes, scalars-encodes, width-small}
 use Rattle.types.specs.TypeOf.{typeOf}
-use Rattle.sentence.specs.Sentence.{Tag, Mark, none, word, unknown, code, Cells, final, cell, Sentence, textOf, marksOf, rowsOf, text, marks, rows, types, starts, charPositions, bytePositions, pad, rowBytes, tagBytes, Char, Row, CellsOf, Formed}
+use Rattle.sentence.specs.Sentence.{Tag, Mark, none, word, unknown, code, Cells, final, cell, Sentence, textOf, marksOf, rowsOf, text, marks, rows, types, charPositions, bytePositions, pad, rowBytes, tagBytes, Char, Row, CellsOf, Formed}
 use Rattle.sentence.proofs.Trips.{all-absent, cut-pad, pad-length}
 pub use Rattle.sheet_check.proofs.Says.{length-starts, length-numbers}
 use Rattle.sheet.specs.declared.Record.{Record}
-use Rattle.sheet.specs.Layout.{Buffers, recordOf, tagsOf, cellsOf, cellStarts, bytesOf, lay, laid, roomFor, Front, Holds, slices, rowsBy, markOf, link, spell}
+use Rattle.sheet.specs.Eight.{Which, part, Every}
+use Rattle.sheet.specs.Layout.{Buffers, recordOf, tagsOf, cellsOf, cellStarts, bytesOf, lay, laid, needs, roomFor, Front, Holds, slices, rowsBy, markOf, link, spell}
+use Rattle.sheet.proofs.Eights.{every, one, part-pairwise}
 
 pub laid-holds : (s : Sentence) (d : Buffers) → Formed s → roomFor (recordOf s) d ≡ true → Holds (recordOf s) (laid s d) s
 unfolding laid
-laid-holds s d f h =
-    record {
-      formed = f;
-      record-is = refl;
-      text-at = take-append-seam _ _;
-      types-at = take-append-seam _ _;
-      boundaries-at = take-append-seam _ _;
-      char-pos-at = take-append-seam _ _;
-      byte-pos-at = take-append-seam _ _;
-      cell-starts-at = take-append-seam _ _;
-      cell-lengths-at = take-append-seam _ _;
-      tag-bytes-at = take-append-seam _ _;
-    }
+laid-holds s d f h = record { formed = f; record-is = refl; lies = every (λ i. rw (part-pairwise over (lay s) d i) (take-append-seam (part (lay s) i) _)) }
 
 -- ---- how long the parts are
 pub length-marks : (s : Cells) → length (textOf s) ≡ length (marksOf s) + 1
@@ -144,14 +135,31 @@ bytes-same n (r ∷ rs) = rw (bytes-joined (pad n r) (cellsOf n rs), bytes-pad n
 pub cells-bytes : (n : ℕ) (rs : List (List Tag)) → rowBytes (cellsOf n rs) ≡ tagBytes rs
 cells-bytes n rs = omega (arith, length-bytesOf (cellsOf n rs), ap length (bytes-same n rs), length-bytesOf (tagsOf rs), bytes-tagsOf rs)
 
+-- ---- each part is as long as the record counts
+pub lay-long : (s : Sentence) → Formed s → Every (λ (i : Which). length (part (lay s) i) ≡ part (needs (recordOf s)) i)
+unfolding lay recordOf
+lay-long s f =
+    let n = length-marks (s .cells) in
+    let c = length-cellsOf (s .columns) (rows s) (rows-are (s .columns) (s .cells) (f .cells-are)) ∙ ap (λ (i : ℕ). i * s .columns) (length-rows (s .cells)) in
+    record {
+      text-is = length-encodes (text s);
+      types-is = length-map (text s) typeOf;
+      boundaries-is = length-map (marks s) code ∙ omega arith;
+      char-pos-is = length-starts 0 (text s);
+      byte-pos-is = length-numbers 0 (text s);
+      cell-starts-is = length-cellStarts 0 (cellsOf (s .columns) (rows s)) ∙ c;
+      cell-lengths-is = length-map (cellsOf (s .columns) (rows s)) size ∙ c;
+      tag-bytes-is = length-bytesOf (tagsOf (rows s)) ∙ bytes-tagsOf (rows s);
+    }
+
 -- ---- what the record and each buffer have where a sentence is held
 -- a buffer starts with a front of n elements
 pub record Prefix (n : ℕ) (front d : List ℕ) : Type 0 where
   pub is : take n d ≡ front
   pub fits : n ≤ length d
 
-prefix : (front d : List ℕ) (n m : ℕ) → n ≡ m → length front ≡ m → Front front d → Prefix n front d
-prefix p d n m e k h = record { is = rw (e, ← k) h; fits = omega (arith, ap length h, length-take (length p) d) }
+prefix : (front d : List ℕ) (n : ℕ) → length front ≡ n → Front front d → Prefix n front d
+prefix p d n k h = record { is = rw (← k) h; fits = omega (arith, ap length h, length-take (length p) d) }
 
 module _ {r : Record} {d : Buffers} {s : Sentence} (h : Holds r d s) where
   pub n-held : r .n ≡ length (text s)
@@ -174,31 +182,41 @@ module _ {r : Record} {d : Buffers} {s : Sentence} (h : Holds r d s) where
   unfolding recordOf
   g-held = rw (h .record-is)
 
+  -- each buffer starts with its part
+  pub parts-held : Every (λ (i : Which). Prefix (part (needs r) i) (part (lay s) i) (part d i))
+  parts-held = every (λ i. prefix _ _ _ (rw (h .record-is) (one (lay-long s (h .formed)) i)) (one (h .lies) i))
+
   pub text-held : Prefix (r .b) (encodes (text s)) (d .text-buf)
   unfolding lay
-  text-held = prefix _ _ _ _ b-held (length-encodes (text s)) (h .text-at)
+  text-held = parts-held .text-is
 
   pub types-held : Prefix (r .n) (types (text s)) (d .types-buf)
   unfolding lay
-  types-held = prefix _ _ _ _ n-held (length-map (text s) typeOf) (h .types-at)
+  types-held = parts-held .types-is
 
   pub boundaries-held : Prefix (r .n - 1) (map code (marks s)) (d .boundaries-buf)
   unfolding lay
-  boundaries-held =
-      let e : r .n - 1 ≡ length (marks s) = omega (arith, n-held, length-marks (s .cells)) in
-      prefix _ _ _ _ e (length-map (marks s) code) (h .boundaries-at)
+  boundaries-held = parts-held .boundaries-is
 
   pub char-pos-held : Prefix (r .n + 1) (charPositions (text s)) (d .char-pos-buf)
   unfolding lay
-  char-pos-held = prefix _ _ _ _ (rw n-held) (length-starts 0 (text s)) (h .char-pos-at)
+  char-pos-held = parts-held .char-pos-is
 
   pub byte-pos-held : Prefix (r .b + 1) (bytePositions (text s)) (d .byte-pos-buf)
   unfolding lay
-  byte-pos-held = prefix _ _ _ _ (rw b-held) (length-numbers 0 (text s)) (h .byte-pos-at)
+  byte-pos-held = parts-held .byte-pos-is
+
+  pub cell-starts-held : Prefix (r .cells) (cellStarts 0 (cellsOf (s .columns) (rows s))) (d .cell-starts-buf)
+  unfolding lay
+  cell-starts-held = parts-held .cell-starts-is
+
+  pub cell-lengths-held : Prefix (r .cells) (map size (cellsOf (s .columns) (rows s))) (d .cell-lengths-buf)
+  unfolding lay
+  cell-lengths-held = parts-held .cell-lengths-is
 
   pub tag-bytes-held : Prefix (r .g) (bytesOf (tagsOf (rows s))) (d .tag-bytes-buf)
   unfolding lay
-  tag-bytes-held = prefix _ _ _ _ g-held (length-bytesOf (tagsOf (rows s)) ∙ bytes-tagsOf (rows s)) (h .tag-bytes-at)
+  tag-bytes-held = parts-held .tag-bytes-is
 
   pub text-chars-held : All Char (text s)
   text-chars-held = text-chars (s .columns) (s .cells) (h .formed .cells-are)
@@ -211,14 +229,6 @@ module _ {r : Record} {d : Buffers} {s : Sentence} (h : Holds r d s) where
 
   pub cells-long : length (cellsOf (s .columns) (rows s)) ≡ r .cells
   cells-long = length-cellsOf (s .columns) (rows s) rows-held ∙ rw (length-rows (s .cells)) (sym cells-held)
-
-  pub cell-starts-held : Prefix (r .cells) (cellStarts 0 (cellsOf (s .columns) (rows s))) (d .cell-starts-buf)
-  unfolding lay
-  cell-starts-held = prefix _ _ _ _ refl (length-cellStarts 0 (cellsOf (s .columns) (rows s)) ∙ cells-long) (h .cell-starts-at)
-
-  pub cell-lengths-held : Prefix (r .cells) (map size (cellsOf (s .columns) (rows s))) (d .cell-lengths-buf)
-  unfolding lay
-  cell-lengths-held = prefix _ _ _ _ refl (length-map (cellsOf (s .columns) (rows s)) size ∙ cells-long) (h .cell-lengths-at)
 
   slices-held : map scalars (slices (take (r .cells) (d .cell-lengths-buf)) (d .tag-bytes-buf)) ≡ cellsOf (s .columns) (rows s)
   slices-held =

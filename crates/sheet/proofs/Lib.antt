@@ -1,3 +1,4 @@
+pub mod Eights
 pub mod Held
 pub mod Exact
 pub mod Listed

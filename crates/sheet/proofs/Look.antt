@@ -22,10 +22,12 @@ use Rattle.sentence.specs.Refusals.{refusal, Check, check, verdict, sheetOrder}
 use Rattle.sentence.specs.Writing.{surface}
 use Rattle.sentence.proofs.Trips.{pad-length}
 use Rattle.sheet.specs.declared.Record.{Record}
-use Rattle.sheet.specs.Layout.{Buffers, cellsOf, cellStarts, bytesOf, Holds, Sheet, markOf}
+use Rattle.sheet.specs.Eight.{Each}
+use Rattle.sheet.specs.Layout.{Buffers, needs, cellsOf, cellStarts, bytesOf, Holds, Sheet, markOf}
 use Rattle.sheet.specs.Check.{isSheet}
 use Rattle.sheet.proofs.Exact.{is-sheet}
-use Rattle.sheet.proofs.Held.{Prefix, length-marks, length-rows, length-bytesOf, rowBytes-append, some-bytes, bytes-joined, bytes-same, cells-bytes, cells-long, n-held, b-held, columns-held, cells-held, g-held, text-held, types-held, boundaries-held, char-pos-held, byte-pos-held, cell-starts-held, cell-lengths-held, tag-bytes-held, text-chars-held, rows-held}
+use Rattle.sheet.proofs.Eights.{every, one}
+use Rattle.sheet.proofs.Held.{parts-held, Prefix, length-marks, length-rows, length-bytesOf, rowBytes-append, some-bytes, bytes-joined, bytes-same, cells-bytes, cells-long, n-held, b-held, columns-held, cells-held, g-held, text-held, boundaries-held, char-pos-held, byte-pos-held, cell-starts-held, cell-lengths-held, tag-bytes-held, text-chars-held, rows-held}
 
 -- ---- a buffer that starts with a front of n elements
 pub prefix-at : {n : ℕ} {front d : List ℕ} → Prefix n front d → (i : ℕ) → i < n → getD d i 0 ≡ getD front i 0
@@ -248,14 +250,7 @@ pub record Bounds (r : Record) (d : Buffers) (s : Sentence) : Type 0 where
   pub b-few : r .b ≤ 4096
   pub columns-few : r .columns ≤ 4096
   pub g-few : r .g ≤ 65535
-  pub text-room : r .b ≤ length (d .text-buf)
-  pub types-room : r .n ≤ length (d .types-buf)
-  pub boundaries-room : r .n - 1 ≤ length (d .boundaries-buf)
-  pub char-pos-room : r .n + 1 ≤ length (d .char-pos-buf)
-  pub byte-pos-room : r .b + 1 ≤ length (d .byte-pos-buf)
-  pub cell-starts-room : r .cells ≤ length (d .cell-starts-buf)
-  pub cell-lengths-room : r .cells ≤ length (d .cell-lengths-buf)
-  pub tag-bytes-room : r .g ≤ length (d .tag-bytes-buf)
+  pub room : Each (λ n l. n ≤ length l) (needs r) d
 
 module _ {r : Record} {d : Buffers} {s : Sentence} (h : Holds r d s) where
   pub bounds : Bounds r d s
@@ -279,14 +274,7 @@ module _ {r : Record} {d : Buffers} {s : Sentence} (h : Holds r d s) where
         b-few = omega (arith, h .formed .text-fits);
         columns-few = omega (arith, h .formed .columns-fit);
         g-few = omega (arith, h .formed .bytes-fit);
-        text-room = text-held h .fits;
-        types-room = types-held h .fits;
-        boundaries-room = boundaries-held h .fits;
-        char-pos-room = char-pos-held h .fits;
-        byte-pos-room = byte-pos-held h .fits;
-        cell-starts-room = cell-starts-held h .fits;
-        cell-lengths-room = cell-lengths-held h .fits;
-        tag-bytes-room = tag-bytes-held h .fits;
+        room = every (λ i. one (parts-held h) i .fits);
       }
 
   -- ---- what stands at an index

@@ -13,7 +13,8 @@ use lib.ListN.{length, take}
 use lib.Seq.{length-take-le}
 use Rattle.sheet_check.specs.Passes.{isText, areMarks, areCells}
 use Rattle.sheet.specs.declared.Record.{Record}
-use Rattle.sheet.specs.Layout.{Buffers, roomFor}
+use Rattle.sheet.specs.Eight.{all}
+use Rattle.sheet.specs.Layout.{Buffers, enough, roomFor}
 use Rattle.sheet.specs.Check.{inLimits, isLaid, Room, isSheet}
 use Rattle.sheet.proofs.Exact.{room-is}
 
@@ -56,7 +57,7 @@ module _ (r : Record) (d : Buffers) where
       && leb (r .cells) (length (d .cell-starts-buf))
       && leb (r .cells) (length (d .cell-lengths-buf))
       && leb (r .g) (length (d .tag-bytes-buf)))) ≡ (inLimits r && roomFor r d)
-  unfolding roomFor
+  unfolding roomFor enough all
   fits-same ok e = rw (e, leb-less (r .n) (length (d .boundaries-buf)), add-one (r .n), add-one (r .b))
 
   -- the answers of the passes, in their order

@@ -5,7 +5,8 @@ use lib.Dec.{eqb, leb}
 use lib.ListN.{length, take}
 use Rattle.sheet_check.specs.Passes.{isText, areMarks, areCells}
 use Rattle.sheet.specs.declared.Record.{Record}
-use Rattle.sheet.specs.Layout.{Buffers, roomFor}
+use Rattle.sheet.specs.Eight.{Each}
+use Rattle.sheet.specs.Layout.{Buffers, needs, roomFor}
 
 -- N is at least 1 and at most B, B and columns at most 4,096, G at most 65,535; there are N times columns cells
 unfoldable pub inLimits : Record → Bool
@@ -21,14 +22,7 @@ isLaid r d =
 -- N is at least 1, and there is room for what the record counts
 pub record Room (r : Record) (d : Buffers) : Type 0 where
   pub some : 1 ≤ r .n
-  pub text-room : r .b ≤ length (d .text-buf)
-  pub types-room : r .n ≤ length (d .types-buf)
-  pub boundaries-room : r .n - 1 ≤ length (d .boundaries-buf)
-  pub char-pos-room : r .n + 1 ≤ length (d .char-pos-buf)
-  pub byte-pos-room : r .b + 1 ≤ length (d .byte-pos-buf)
-  pub cell-starts-room : r .cells ≤ length (d .cell-starts-buf)
-  pub cell-lengths-room : r .cells ≤ length (d .cell-lengths-buf)
-  pub tag-bytes-room : r .g ≤ length (d .tag-bytes-buf)
+  pub room : Each (λ n l. n ≤ length l) (needs r) d
 
 -- the record and the buffers are a sheet
 unfoldable pub isSheet : Record → Buffers → Bool

@@ -1,7 +1,7 @@
 -- How a sentence lies in eight lent buffers, and which sentence a record and buffers hold.
 use Prim.Native.Nat.{ℕ, zero, suc, _+_, _-_, _*_}
 use mathlib.Core.Path.{_≡_}
-use mathlib.Core.Bool.{Bool, _&&_}
+use mathlib.Core.Bool.{Bool}
 use mathlib.Core.List.{List, [], _∷_, _++_, map}
 use lib.Dec.{leb}
 use lib.ListN.{length, take, drop, getD}
@@ -9,31 +9,16 @@ use Rattle.laws.specs.Put.{over}
 use Rattle.utf8.specs.Utf8.{scalars, encodes, size}
 use Rattle.sentence.specs.Sentence.{Tag, Mark, none, word, unknown, code, Cells, final, cell, Sentence, text, marks, rows, count, types, charPositions, bytePositions, cut, pad, tagBytes, Formed}
 use Rattle.sheet.specs.declared.Record.{Record}
+use Rattle.sheet.specs.Eight.{Eight, part, eight, each, pairwise, all, Each}
 use denote.Ref.{RefT}
 use denote.Triple.Both.{Both}
 
 -- the contents of the eight buffers
-pub record Buffers : Type 0 where
-  pub text-buf : List ℕ
-  pub types-buf : List ℕ
-  pub boundaries-buf : List ℕ
-  pub char-pos-buf : List ℕ
-  pub byte-pos-buf : List ℕ
-  pub cell-starts-buf : List ℕ
-  pub cell-lengths-buf : List ℕ
-  pub tag-bytes-buf : List ℕ
+abbrev pub Buffers : Type 0
+Buffers = Eight (List ℕ)
 
 abbrev pub buffers : List ℕ → List ℕ → List ℕ → List ℕ → List ℕ → List ℕ → List ℕ → List ℕ → Buffers
-buffers t y m c b r e g = record {
-  text-buf = t;
-  types-buf = y;
-  boundaries-buf = m;
-  char-pos-buf = c;
-  byte-pos-buf = b;
-  cell-starts-buf = r;
-  cell-lengths-buf = e;
-  tag-bytes-buf = g;
-}
+buffers = eight
 
 -- a buffer that is lent to a call, by what it held before, and by what it holds after
 abbrev pub LentBefore : Type 0 → Type 0
@@ -65,6 +50,10 @@ withBoundaries m d =
 
 abbrev pub withCells : List ℕ → List ℕ → Buffers → Buffers
 withCells w e d = buffers (d .text-buf) (d .types-buf) (d .boundaries-buf) (d .char-pos-buf) (d .byte-pos-buf) w e (d .tag-bytes-buf)
+
+-- the buffers e are the buffers b, one by one
+abbrev pub Same : Buffers → Buffers → Type 0
+Same b e = Each (λ x y. y ≡ x) b e
 
 -- N, B, columns, N times columns, and G
 unfoldable pub recordOf : Sentence → Record
@@ -105,28 +94,19 @@ lay s = record {
 
 -- each buffer with its list of a sentence at its front, and then what it held
 unfoldable pub laid : Sentence → Buffers → Buffers
-laid s d = record {
-  text-buf = over (lay s .text-buf) (d .text-buf);
-  types-buf = over (lay s .types-buf) (d .types-buf);
-  boundaries-buf = over (lay s .boundaries-buf) (d .boundaries-buf);
-  char-pos-buf = over (lay s .char-pos-buf) (d .char-pos-buf);
-  byte-pos-buf = over (lay s .byte-pos-buf) (d .byte-pos-buf);
-  cell-starts-buf = over (lay s .cell-starts-buf) (d .cell-starts-buf);
-  cell-lengths-buf = over (lay s .cell-lengths-buf) (d .cell-lengths-buf);
-  tag-bytes-buf = over (lay s .tag-bytes-buf) (d .tag-bytes-buf);
-}
+laid s d = pairwise over (lay s) d
 
 -- the room needed: text B, types N, boundaries N-1, char positions N+1, byte positions B+1, starts and lengths a cell each, tag bytes G
+abbrev pub needs : Record → Eight ℕ
+needs r = eight (r .b) (r .n) (r .n - 1) (r .n + 1) (r .b + 1) (r .cells) (r .cells) (r .g)
+
+-- there is so much of each
+unfoldable pub enough : Eight ℕ → Eight ℕ → Bool
+enough n l = all (λ i. leb (part n i) (part l i))
+
+-- the buffers have the room that a record needs
 unfoldable pub roomFor : Record → Buffers → Bool
-roomFor r d =
-    leb (r .b) (length (d .text-buf))
-    && leb (r .n) (length (d .types-buf))
-    && leb (r .n - 1) (length (d .boundaries-buf))
-    && leb (r .n + 1) (length (d .char-pos-buf))
-    && leb (r .b + 1) (length (d .byte-pos-buf))
-    && leb (r .cells) (length (d .cell-starts-buf))
-    && leb (r .cells) (length (d .cell-lengths-buf))
-    && leb (r .g) (length (d .tag-bytes-buf))
+roomFor r d = enough (needs r) (each length d)
 
 -- a buffer starts with a list
 abbrev pub Front : List ℕ → List ℕ → Type 0
@@ -136,14 +116,7 @@ Front front d = take (length front) d ≡ front
 pub record Holds (r : Record) (d : Buffers) (s : Sentence) : Type 0 where
   pub formed : Formed s
   pub record-is : r ≡ recordOf s
-  pub text-at : Front (lay s .text-buf) (d .text-buf)
-  pub types-at : Front (lay s .types-buf) (d .types-buf)
-  pub boundaries-at : Front (lay s .boundaries-buf) (d .boundaries-buf)
-  pub char-pos-at : Front (lay s .char-pos-buf) (d .char-pos-buf)
-  pub byte-pos-at : Front (lay s .byte-pos-buf) (d .byte-pos-buf)
-  pub cell-starts-at : Front (lay s .cell-starts-buf) (d .cell-starts-buf)
-  pub cell-lengths-at : Front (lay s .cell-lengths-buf) (d .cell-lengths-buf)
-  pub tag-bytes-at : Front (lay s .tag-bytes-buf) (d .tag-bytes-buf)
+  pub lies : Each Front (lay s) d
 
 -- ---- the sentence that a record and buffers spell
 -- a list cut into parts of these lengths

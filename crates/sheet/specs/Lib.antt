@@ -1,3 +1,4 @@
+pub mod Eight
 pub mod Layout
 pub mod Listed
 pub mod Check

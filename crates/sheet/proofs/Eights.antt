@@ -1,0 +1,64 @@
+-- What holds of each of the eight buffers holds of every one, and back. Assumes nothing.
+use mathlib.Core.Path.{_≡_, refl}
+use mathlib.Core.Bool.{Bool, true, and-eq-true-iff}
+use Rattle.sheet.specs.Eight.{Which, the-text, the-types, the-boundaries, the-char-pos, the-byte-pos, the-cell-starts, the-cell-lengths, the-tag-bytes, Eight, part, by, each, pairwise, all, Every}
+use Rattle.sheet.specs.Layout.{Buffers, Same}
+
+-- in the order of the buffers, and by a rule
+pub rows : {P : Which → Type 0} → P the-text → P the-types → P the-boundaries → P the-char-pos → P the-byte-pos → P the-cell-starts → P the-cell-lengths → P the-tag-bytes → Every P
+rows t y m c b w e g = record {
+  text-is = t;
+  types-is = y;
+  boundaries-is = m;
+  char-pos-is = c;
+  byte-pos-is = b;
+  cell-starts-is = w;
+  cell-lengths-is = e;
+  tag-bytes-is = g;
+}
+
+pub every : {P : Which → Type 0} → ((i : Which) → P i) → Every P
+every f = rows (f the-text) (f the-types) (f the-boundaries) (f the-char-pos) (f the-byte-pos) (f the-cell-starts) (f the-cell-lengths) (f the-tag-bytes)
+
+pub one : {P : Which → Type 0} → Every P → (i : Which) → P i
+one h the-text = h .text-is
+one h the-types = h .types-is
+one h the-boundaries = h .boundaries-is
+one h the-char-pos = h .char-pos-is
+one h the-byte-pos = h .byte-pos-is
+one h the-cell-starts = h .cell-starts-is
+one h the-cell-lengths = h .cell-lengths-is
+one h the-tag-bytes = h .tag-bytes-is
+
+-- what a rule gives for a buffer
+part-by : {A : Type 0} (f : Which → A) (i : Which) → part (by f) i ≡ f i
+part-by f the-text = refl
+part-by f the-types = refl
+part-by f the-boundaries = refl
+part-by f the-char-pos = refl
+part-by f the-byte-pos = refl
+part-by f the-cell-starts = refl
+part-by f the-cell-lengths = refl
+part-by f the-tag-bytes = refl
+
+pub part-each : {A B : Type 0} (f : A → B) (a : Eight A) (i : Which) → part (each f a) i ≡ f (part a i)
+part-each f a = part-by (λ i. f (part a i))
+
+pub part-pairwise : {A B C : Type 0} (f : A → B → C) (a : Eight A) (b : Eight B) (i : Which) → part (pairwise f a b) i ≡ f (part a i) (part b i)
+part-pairwise f a b = part-by (λ i. f (part a i) (part b i))
+
+-- a test of every buffer
+pub all-true : (t : Which → Bool) → Every (λ (i : Which). t i ≡ true) → all t ≡ true
+unfolding all
+all-true t h = rw (h .text-is, h .types-is, h .boundaries-is, h .char-pos-is, h .byte-pos-is, h .cell-starts-is, h .cell-lengths-is, h .tag-bytes-is)
+
+pub true-all : (t : Which → Bool) → all t ≡ true → Every (λ (i : Which). t i ≡ true)
+unfolding all
+true-all t h = let (((((((a, b), c), d), e), f), g), i) = simp and-eq-true-iff at h in rows a b c d e f g i
+
+-- ---- buffers that are the same
+pub same-self : (d : Buffers) → Same d d
+same-self d = every (λ i. refl)
+
+pub same-is : {b e : Buffers} → Same b e → e ≡ b
+same-is h = λ j. by (λ i. one h i j)
