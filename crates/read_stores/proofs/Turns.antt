@@ -11,6 +11,7 @@ use Rattle.types.specs.TypeOf.{typeOf}
 use Rattle.sentence.specs.Sentence.{code}
 use Rattle.sentence.specs.Reading as reading
 use Rattle.sheet.specs.Layout.{Buffers, buffers}
+use Rattle.sheet.proofs.Eights.{rows}
 use Rattle.read_state.specs.declared.Act.the-variants.{Skip, Letter, Opens, OfTag}
 use Rattle.read_state.specs.declared.Mark.{Mark}
 use Rattle.read_state.specs.declared.Stepped.{Stepped}
@@ -50,12 +51,12 @@ letter-turning z m c k line at n d t =
       within = t .within;
       bytes = t .bytes;
       wide = w;
-      text-room = omega (arith, t .room .text-room, length-encode c);
-      types-room = omega (arith, t .room .types-room);
-      boundaries-room = t .room .boundaries-room;
-      char-pos-room = omega (arith, t .room .char-pos-room);
-      byte-pos-room = omega (arith, t .room .byte-pos-room, length-replicate {A = ℕ} (width c - 1) 0, t .some);
-      row-room = record { small = t .small; narrow = t .narrow; starts-room = t .room .cell-starts-room; lengths-room = t .room .cell-lengths-room };
+      text-room = omega (arith, t .room .text-is, length-encode c);
+      types-room = omega (arith, t .room .types-is);
+      boundaries-room = t .room .boundaries-is;
+      char-pos-room = omega (arith, t .room .char-pos-is);
+      byte-pos-room = omega (arith, t .room .byte-pos-is, length-replicate {A = ℕ} (width c - 1) 0, t .some);
+      row-room = record { small = t .small; narrow = t .narrow; starts-room = t .room .cell-starts-is; lengths-room = t .room .cell-lengths-is };
     }
 
 pub letter-room : (z : ℕ) (s : Stepped) (k : Counts) (line : List ℕ) (at n : ℕ) (d : Buffers) → s .act ≡ Letter → Turning z (actOf s) k line at n d → LetterRoom z (s .mark) (s .c) k line at n d
@@ -71,30 +72,12 @@ pub letter-stored : (z : ℕ) (s : Stepped) {k : Counts} {line : List ℕ} {at n
 unfolding actBy actOf textStore typesStore boundariesStore charPosStore bytePosStore cellStartsStore cellLengthsStore tagBytesStore onLetter cellsAt tagByte
 letter-stored z s {k} {line} {at} {n} i h et er eo eb ec =
     let l = letter-room z s k line at n _ i h in
-    record {
-      text-is = rw i (et ∙ rw (l .bytes));
-      types-is = rw (i, er);
-      boundaries-is = rw i eo;
-      char-pos-is = rw i;
-      byte-pos-is = rw (i, ← (l .wide)) eb;
-      cell-starts-is = rw i (ec .0);
-      cell-lengths-is = rw i (ec .1);
-      tag-bytes-is = rw i;
-    }
+    record { stored = rows (rw i (et ∙ rw (l .bytes))) (rw (i, er)) (rw i eo) (rw i) (rw (i, ← (l .wide)) eb) (rw i (ec .0)) (rw i (ec .1)) (rw i) }
 
 -- ---- nothing
 pub skip-stored : (z : ℕ) (s : Stepped) {k : Counts} {d : Buffers} → s .act ≡ Skip → Stored z (λ (q : Store). q .emit (actOf s) k) k d d
 unfolding actBy actOf textStore typesStore boundariesStore charPosStore bytePosStore cellStartsStore cellLengthsStore tagBytesStore onLetter cellsAt tagByte
-skip-stored z s i = record {
-  text-is = rw i;
-  types-is = rw i;
-  boundaries-is = rw i;
-  char-pos-is = rw i;
-  byte-pos-is = rw i;
-  cell-starts-is = rw i;
-  cell-lengths-is = rw i;
-  tag-bytes-is = rw i;
-}
+skip-stored z s i = record { stored = rows (rw i) (rw i) (rw i) (rw i) (rw i) (rw i) (rw i) (rw i) }
 
 -- ---- a tag begins
 pub opens-room : (z : ℕ) (s : Stepped) (k : Counts) (line : List ℕ) (at n : ℕ) (d : Buffers) → s .act ≡ Opens → Turning z (actOf s) k line at n d
@@ -102,22 +85,13 @@ pub opens-room : (z : ℕ) (s : Stepped) (k : Counts) (line : List ℕ) (at n : 
 unfolding actBy actOf cellStartsStore cellLengthsStore cellsAt
 opens-room z s k line at n d i h =
     let t = rw i at h in
-    record { small = t .small; narrow = t .narrow; starts-room = t .room .cell-starts-room; lengths-room = t .room .cell-lengths-room }
+    record { small = t .small; narrow = t .narrow; starts-room = t .room .cell-starts-is; lengths-room = t .room .cell-lengths-is }
 
 pub opens-stored : (z : ℕ) (s : Stepped) {k : Counts} {t y o p b w e g w′ e′ : List ℕ} → s .act ≡ Opens
     → (w′ ≡ put w (place z k) (openCell (k .n) (k .tag) (k .g - k .long))) × (e′ ≡ put e (place z k) (openCell (k .n) (k .tag) (k .long)))
     → Stored z (λ (q : Store). q .emit (actOf s) k) k (buffers t y o p b w e g) (buffers t y o p b w′ e′ g)
 unfolding actBy actOf textStore typesStore boundariesStore charPosStore bytePosStore cellStartsStore cellLengthsStore tagBytesStore onLetter cellsAt tagByte
-opens-stored z s i ec = record {
-  text-is = rw i;
-  types-is = rw i;
-  boundaries-is = rw i;
-  char-pos-is = rw i;
-  byte-pos-is = rw i;
-  cell-starts-is = rw i (ec .0);
-  cell-lengths-is = rw i (ec .1);
-  tag-bytes-is = rw i;
-}
+opens-stored z s i ec = record { stored = rows (rw i) (rw i) (rw i) (rw i) (rw i) (rw i (ec .0)) (rw i (ec .1)) (rw i) }
 
 -- ---- a character of a tag
 pub record TagRoom (k : Counts) (line : List ℕ) (at n : ℕ) (d : Buffers) : Type 0 where
@@ -132,7 +106,7 @@ tag-turning z m c k line at n d t = record {
   some = t .some;
   few = t .few;
   within = t .within;
-  tag-bytes-room = rw (t .bytes) (t .room .tag-bytes-room);
+  tag-bytes-room = rw (t .bytes) (t .room .tag-bytes-is);
 }
 
 pub tag-room : (z : ℕ) (s : Stepped) (k : Counts) (line : List ℕ) (at n : ℕ) (d : Buffers) → s .act ≡ OfTag → Turning z (actOf s) k line at n d → TagRoom k line at n d
@@ -145,13 +119,4 @@ pub tag-stored : (z : ℕ) (s : Stepped) {k : Counts} {line : List ℕ} {at n : 
 unfolding actBy actOf textStore typesStore boundariesStore charPosStore bytePosStore cellStartsStore cellLengthsStore tagBytesStore onLetter cellsAt tagByte
 tag-stored z s {k} {line} {at} {n} i h eg =
     let x : take n (drop at line) ≡ encode (s .c) = (rw i at h) .bytes in
-    record {
-      text-is = rw i;
-      types-is = rw i;
-      boundaries-is = rw i;
-      char-pos-is = rw i;
-      byte-pos-is = rw i;
-      cell-starts-is = rw i;
-      cell-lengths-is = rw i;
-      tag-bytes-is = rw (i, ← x) eg;
-    }
+    record { stored = rows (rw i) (rw i) (rw i) (rw i) (rw i) (rw i) (rw i) (rw (i, ← x) eg) }

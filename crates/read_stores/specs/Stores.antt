@@ -9,6 +9,7 @@ use Rattle.utf8.specs.Utf8.{width, encode}
 use Rattle.types.specs.TypeOf.{typeOf}
 use Rattle.sentence.specs.Sentence.{Mark, code}
 use Rattle.sentence.specs.Reading.{Act, skip, letter, opens, ofTag}
+use Rattle.sheet.specs.Eight.{Eight, part, eight, Every, Each}
 use Rattle.sheet.specs.Layout.{Buffers}
 use Rattle.read_counts.specs.declared.Counts.{Counts}
 use Rattle.read_counts.specs.Counts.{Small, opened}
@@ -97,27 +98,21 @@ cellLengthsStore c = record { index = place c; emit = λ a k. cellsAt c (k .long
 unfoldable pub tagBytesStore : Store
 tagBytesStore = record { index = λ k. k .g; emit = tagByte; last = λ k. [] }
 
--- the buffers e are d with what w says stored in each part
+-- the parts of the eight buffers, where each character has c cells
+abbrev pub stores : ℕ → Eight Store
+stores c = eight textStore typesStore boundariesStore charPosStore bytePosStore (cellStartsStore c) (cellLengthsStore c) tagBytesStore
+
+-- a buffer e is d with what w says stored in its part
+abbrev pub StoredIn : (Store → List ℕ) → Counts → Store → List ℕ → List ℕ → Type 0
+StoredIn w k p d e = e ≡ put d (p .index k) (w p)
+
+-- every buffer of e is that of d with what w says stored in its part
 pub record Stored (c : ℕ) (w : Store → List ℕ) (k : Counts) (d e : Buffers) : Type 0 where
-  pub text-is : e .text-buf ≡ put (d .text-buf) (textStore .index k) (w textStore)
-  pub types-is : e .types-buf ≡ put (d .types-buf) (typesStore .index k) (w typesStore)
-  pub boundaries-is : e .boundaries-buf ≡ put (d .boundaries-buf) (boundariesStore .index k) (w boundariesStore)
-  pub char-pos-is : e .char-pos-buf ≡ put (d .char-pos-buf) (charPosStore .index k) (w charPosStore)
-  pub byte-pos-is : e .byte-pos-buf ≡ put (d .byte-pos-buf) (bytePosStore .index k) (w bytePosStore)
-  pub cell-starts-is : e .cell-starts-buf ≡ put (d .cell-starts-buf) (cellStartsStore c .index k) (w (cellStartsStore c))
-  pub cell-lengths-is : e .cell-lengths-buf ≡ put (d .cell-lengths-buf) (cellLengthsStore c .index k) (w (cellLengthsStore c))
-  pub tag-bytes-is : e .tag-bytes-buf ≡ put (d .tag-bytes-buf) (tagBytesStore .index k) (w tagBytesStore)
+  pub stored : Every (λ i. StoredIn w k (part (stores c) i) (part d i) (part e i))
 
 -- there is room for it
-pub record Room (c : ℕ) (w : Store → List ℕ) (k : Counts) (d : Buffers) : Type 0 where
-  pub text-room : textStore .index k + length (w textStore) ≤ length (d .text-buf)
-  pub types-room : typesStore .index k + length (w typesStore) ≤ length (d .types-buf)
-  pub boundaries-room : boundariesStore .index k + length (w boundariesStore) ≤ length (d .boundaries-buf)
-  pub char-pos-room : charPosStore .index k + length (w charPosStore) ≤ length (d .char-pos-buf)
-  pub byte-pos-room : bytePosStore .index k + length (w bytePosStore) ≤ length (d .byte-pos-buf)
-  pub cell-starts-room : cellStartsStore c .index k + length (w (cellStartsStore c)) ≤ length (d .cell-starts-buf)
-  pub cell-lengths-room : cellLengthsStore c .index k + length (w (cellLengthsStore c)) ≤ length (d .cell-lengths-buf)
-  pub tag-bytes-room : tagBytesStore .index k + length (w tagBytesStore) ≤ length (d .tag-bytes-buf)
+abbrev pub Room : ℕ → (Store → List ℕ) → Counts → Buffers → Type 0
+Room c w k d = Each (λ p l. p .index k + length (w p) ≤ length l) (stores c) d
 
 -- an act's character is that of n bytes of the line
 abbrev pub Bytes : Act → List ℕ → Type 0

@@ -136,9 +136,9 @@ pub cells-bytes : (n : ℕ) (rs : List (List Tag)) → rowBytes (cellsOf n rs) �
 cells-bytes n rs = omega (arith, length-bytesOf (cellsOf n rs), ap length (bytes-same n rs), length-bytesOf (tagsOf rs), bytes-tagsOf rs)
 
 -- ---- each part is as long as the record counts
-pub lay-long : (s : Sentence) → Formed s → Every (λ (i : Which). length (part (lay s) i) ≡ part (needs (recordOf s)) i)
+pub parts-long : (s : Sentence) → Formed s → Every (λ (i : Which). length (part (lay s) i) ≡ part (needs (recordOf s)) i)
 unfolding lay recordOf
-lay-long s f =
+parts-long s f =
     let n = length-marks (s .cells) in
     let c = length-cellsOf (s .columns) (rows s) (rows-are (s .columns) (s .cells) (f .cells-are)) ∙ ap (λ (i : ℕ). i * s .columns) (length-rows (s .cells)) in
     record {
@@ -184,7 +184,7 @@ module _ {r : Record} {d : Buffers} {s : Sentence} (h : Holds r d s) where
 
   -- each buffer starts with its part
   pub parts-held : Every (λ (i : Which). Prefix (part (needs r) i) (part (lay s) i) (part d i))
-  parts-held = every (λ i. prefix _ _ _ (rw (h .record-is) (one (lay-long s (h .formed)) i)) (one (h .lies) i))
+  parts-held = every (λ i. prefix _ _ _ (rw (h .record-is) (one (parts-long s (h .formed)) i)) (one (h .lies) i))
 
   pub text-held : Prefix (r .b) (encodes (text s)) (d .text-buf)
   unfolding lay
