@@ -1,29 +1,29 @@
 -- Eight parts that are being stored: what a line's acts store from the start is the sentence that it reads to. Assumes nothing.
-use Prim.Native.Nat.{ℕ, zero, suc, _+_, _-_, _*_, _≤_}
+use Prim.Native.Nat.{ℕ, zero, suc, _+_, _-_, _≤_}
 use mathlib.Core.Path.{_≡_, refl, sym, ap, _∙_}
 use mathlib.Core.Bool.{Bool, true, false}
 use mathlib.Core.List.{List, [], _∷_, _++_}
 use native.Mathlib.Numerals.{add-one}
 use native.Mathlib.Omega.{arith}
-use lib.ListN.{length, length-append, length-map, length-replicate}
+use lib.ListN.{length, length-append, length-replicate}
 use Rattle.laws.specs.Put.{put, length-put, over, put-front, Filling, fill-start}
-use Rattle.laws.proofs.Facts.{reads}
-use Rattle.utf8.specs.Utf8.{width, encode, size}
-use Rattle.utf8.proofs.Codec.{length-encode, length-encodes, width-small}
-use Rattle.types.specs.TypeOf.{typeOf}
-use Rattle.sentence.specs.Sentence.{Tag, Mark, Sentence, code, text, marks, rows, rowBytes, Formed}
+use Rattle.utf8.specs.Utf8.{width, encode}
+use Rattle.utf8.proofs.Codec.{length-encode, width-small}
+use Rattle.sentence.specs.Sentence.{Tag, Mark, Sentence, code, rows, rowBytes, Formed}
 use Rattle.sentence.specs.Reading as reading
 use Rattle.sentence.specs.Reading.{Form, at, start, Act, skip, letter, opens, ofTag, whole, run, next, Parsed, parsed, gather, built, sentence}
-use Rattle.sheet.specs.Layout.{Buffers, buffers, recordOf, roomFor, cellsOf, tagsOf, bytesOf, lay, laid}
-use Rattle.sheet.proofs.Held.{length-marks, length-rows, rows-are, length-cellStarts, length-cellsOf, length-bytesOf, bytes-tagsOf, length-starts, length-numbers}
+use Rattle.sheet.specs.Eight.{Which, part, Every, Each}
+use Rattle.sheet.specs.Layout.{Buffers, buffers, Same, recordOf, roomFor, cellsOf, bytesOf, lay, laid}
+use Rattle.sheet.proofs.Eights.{in-order, every, one, part-pairwise}
+use Rattle.sheet.proofs.Exact.{has-room}
+use Rattle.sheet.proofs.Held.{parts-long}
 use Rattle.read_counts.specs.declared.Counts.{Counts}
 use Rattle.read_counts.specs.Counts.{Small, opened, nothing, bytes, letters, opening, grows, tallyBy, tally}
 use Rattle.read_counts.proofs.Rests.{lettersIn, rowsIn, Fresh, run-fresh}
 use Rattle.read_counts.proofs.Totals.{held, widest, widest-less, widest-tags}
-use Rattle.read_stores.specs.Stores.{later, spot, place, openCell, absentCells, rowCells, kept, onLetter, cellsAt, tagByte, Store, textStore, typesStore, boundariesStore, charPosStore, bytePosStore, cellStartsStore, cellLengthsStore, tagBytesStore, Stored, Room, Finishing, Finished}
+use Rattle.read_stores.specs.Stores.{later, spot, place, openCell, absentCells, rowCells, kept, onLetter, cellsAt, tagByte, Store, textStore, typesStore, boundariesStore, charPosStore, bytePosStore, cellStartsStore, cellLengthsStore, tagBytesStore, stores, StoredIn, Stored, Room, Finishing, Finished}
 use Rattle.read_stores.proofs.Copies.{put-append}
 use Rattle.read_fill.specs.Emits.{emits}
-use Rattle.read_fill.specs.Fill.{Same}
 use Rattle.read_fill.proofs.Texts.{restOf, bounds, text-emits, types-emits, boundaries-emits, char-pos-emits, byte-pos-emits}
 use Rattle.read_fill.proofs.Cells.{valuesBy, cellStore, leftFrom, cellsLeft, cells-emits, starts-values, lengths-values, bytesLeft, tag-bytes-emits}
 
@@ -43,14 +43,7 @@ begun (parsed t ts n (next m cs)) s f e = record { t = t; n = n; m = m; is = let
 
 -- what is stored in each part, from the start
 pub record Emitted (l : List Act) (s : Sentence) : Type 0 where
-  pub text-all : emits textStore l nothing ≡ lay s .text-buf
-  pub types-all : emits typesStore l nothing ≡ lay s .types-buf
-  pub boundaries-all : emits boundariesStore l nothing ≡ lay s .boundaries-buf
-  pub char-pos-all : emits charPosStore l nothing ≡ lay s .char-pos-buf
-  pub byte-pos-all : emits bytePosStore l nothing ≡ lay s .byte-pos-buf
-  pub cell-starts-all : emits (cellStartsStore (s .columns)) l nothing ≡ lay s .cell-starts-buf
-  pub cell-lengths-all : emits (cellLengthsStore (s .columns)) l nothing ≡ lay s .cell-lengths-buf
-  pub tag-bytes-all : emits tagBytesStore l nothing ≡ lay s .tag-bytes-buf
+  pub parts : Every (λ i. emits (part (stores (s .columns)) i) l nothing ≡ part (lay s) i)
   pub wide : widest nothing (gather l) ≤ s .columns
 
 -- the cells of a line that begins so
@@ -69,20 +62,22 @@ emitted f x l s r e =
     let b = begun (gather l) s (run-fresh f x l r) e in
     let w = begun-wide (gather l) s b in
     record {
-      text-all = text-emits l nothing ∙ rw (b .is);
-      types-all = types-emits l nothing ∙ rw (b .is);
-      boundaries-all = boundaries-emits l nothing ∙ rw (b .is);
-      char-pos-all = char-pos-emits l nothing ∙ rw (b .is);
-      byte-pos-all = byte-pos-emits l nothing ∙ rw (b .is);
-      cell-starts-all = cells-all (λ b l. b) l s b w ∙ starts-values 0 (cellsOf (s .columns) (rows s));
-      cell-lengths-all = cells-all (λ b l. l) l s b w ∙ lengths-values 0 (cellsOf (s .columns) (rows s));
-      tag-bytes-all = tag-bytes-emits l nothing ∙ rw (b .is);
+      parts =
+          in-order
+          (text-emits l nothing ∙ rw (b .is))
+          (types-emits l nothing ∙ rw (b .is))
+          (boundaries-emits l nothing ∙ rw (b .is))
+          (char-pos-emits l nothing ∙ rw (b .is))
+          (byte-pos-emits l nothing ∙ rw (b .is))
+          (cells-all (λ b l. b) l s b w ∙ starts-values 0 (cellsOf (s .columns) (rows s)))
+          (cells-all (λ b l. l) l s b w ∙ lengths-values 0 (cellsOf (s .columns) (rows s)))
+          (tag-bytes-emits l nothing ∙ rw (b .is));
       wide = w;
     }
 
 -- ---- a part's place moves by what an act stores there
-abbrev Moves : Store → Type 0
-Moves p = (a : Act) (k : Counts) → p .index (tally a k) ≡ p .index k + length (p .emit a k)
+abbrev Moves : Act → Counts → Store → Type 0
+Moves a k p = p .index (tally a k) ≡ p .index k + length (p .emit a k)
 
 -- a character of a tag moves no place of the text
 grows-text : (o : Bool) (w : ℕ) (k : Counts) → (grows o w k .n ≡ k .n) × (grows o w k .b ≡ k .b)
@@ -95,35 +90,35 @@ unfolding later
 later-moves zero v = refl
 later-moves (suc n) v = omega arith
 
-text-moves : Moves textStore
+text-moves : (a : Act) (k : Counts) → Moves a k textStore
 unfolding textStore onLetter tally tallyBy bytes letters opening
 text-moves skip k = omega arith
 text-moves (letter m c) k = omega (arith, length-encode c)
 text-moves opens k = omega arith
 text-moves (ofTag c) k = omega (arith, grows-text (k .tag) (width c) k)
 
-types-moves : Moves typesStore
+types-moves : (a : Act) (k : Counts) → Moves a k typesStore
 unfolding typesStore onLetter tally tallyBy bytes letters opening
 types-moves skip k = omega arith
 types-moves (letter m c) k = omega arith
 types-moves opens k = omega arith
 types-moves (ofTag c) k = omega (arith, grows-text (k .tag) (width c) k)
 
-boundaries-moves : Moves boundariesStore
+boundaries-moves : (a : Act) (k : Counts) → Moves a k boundariesStore
 unfolding boundariesStore onLetter tally tallyBy bytes letters opening
 boundaries-moves skip k = omega arith
 boundaries-moves (letter m c) k = later-moves (k .n) (code m)
 boundaries-moves opens k = omega arith
 boundaries-moves (ofTag c) k = omega (arith, grows-text (k .tag) (width c) k)
 
-char-pos-moves : Moves charPosStore
+char-pos-moves : (a : Act) (k : Counts) → Moves a k charPosStore
 unfolding charPosStore onLetter tally tallyBy bytes letters opening
 char-pos-moves skip k = omega arith
 char-pos-moves (letter m c) k = omega arith
 char-pos-moves opens k = omega arith
 char-pos-moves (ofTag c) k = omega (arith, grows-text (k .tag) (width c) k)
 
-byte-pos-moves : Moves bytePosStore
+byte-pos-moves : (a : Act) (k : Counts) → Moves a k bytePosStore
 unfolding bytePosStore onLetter tally tallyBy bytes letters opening
 byte-pos-moves skip k = omega arith
 byte-pos-moves (letter m c) k = omega (arith, length-replicate {A = ℕ} (width c - 1) 0, width-small c)
@@ -155,11 +150,11 @@ cells-moves c v z (letter m d) k h = row-moves c (k .n) (k .tags) v z (k .tag) h
 cells-moves c v z opens k h = open-moves c (k .n) (k .tags) v (k .tag)
 cells-moves c v z (ofTag d) k h = grow-moves c (k .tag) (width d) k
 
-cell-starts-moves : (c : ℕ) (a : Act) (k : Counts) → k .tags + opened (k .tag) ≤ c → cellStartsStore c .index (tally a k) ≡ cellStartsStore c .index k + length (cellStartsStore c .emit a k)
+cell-starts-moves : (c : ℕ) (a : Act) (k : Counts) → k .tags + opened (k .tag) ≤ c → Moves a k (cellStartsStore c)
 unfolding cellStartsStore
 cell-starts-moves c a k h = cells-moves c (k .g - k .long) (k .g) a k h
 
-cell-lengths-moves : (c : ℕ) (a : Act) (k : Counts) → k .tags + opened (k .tag) ≤ c → cellLengthsStore c .index (tally a k) ≡ cellLengthsStore c .index k + length (cellLengthsStore c .emit a k)
+cell-lengths-moves : (c : ℕ) (a : Act) (k : Counts) → k .tags + opened (k .tag) ≤ c → Moves a k (cellLengthsStore c)
 unfolding cellLengthsStore
 cell-lengths-moves c a k h = cells-moves c (k .long) 0 a k h
 
@@ -168,19 +163,29 @@ unfolding grows kept
 grows-bytes true c k = omega (arith, length-encode c)
 grows-bytes false c k = omega arith
 
-tag-bytes-moves : Moves tagBytesStore
+tag-bytes-moves : (a : Act) (k : Counts) → Moves a k tagBytesStore
 unfolding tagBytesStore tagByte tally tallyBy bytes letters opening
 tag-bytes-moves skip k = omega arith
 tag-bytes-moves (letter m c) k = omega arith
 tag-bytes-moves opens k = omega arith
 tag-bytes-moves (ofTag c) k = grows-bytes (k .tag) c k
 
+parts-move : (c : ℕ) (a : Act) (k : Counts) → k .tags + opened (k .tag) ≤ c → Every (λ (i : Which). Moves a k (part (stores c) i))
+parts-move c a k h =
+    in-order (text-moves a k) (types-moves a k) (boundaries-moves a k) (char-pos-moves a k) (byte-pos-moves a k)
+    (cell-starts-moves c a k h) (cell-lengths-moves c a k h) (tag-bytes-moves a k)
+
+-- each starts at the front of its buffer
+parts-start : (c : ℕ) → Every (λ (i : Which). part (stores c) i .index nothing ≡ 0)
+unfolding nothing spot textStore typesStore boundariesStore charPosStore bytePosStore cellStartsStore cellLengthsStore tagBytesStore
+parts-start c = in-order refl refl refl refl refl refl refl refl
+
 -- ---- one part that is being stored: what the acts l leave to be stored from the counts k on fits
 pub record Going (p : Store) (l : List Act) (k : Counts) (all d₀ d : List ℕ) : Type 0 where
   pub filling : Filling d₀ all d (p .index k) (emits p l k)
   pub room : p .index k + length (emits p l k) ≤ length d
 
-going-turn : (p : Store) (a : Act) (l : List Act) (k : Counts) → p .index (tally a k) ≡ p .index k + length (p .emit a k) → (all d₀ d e : List ℕ) → Going p (a ∷ l) k all d₀ d → e ≡ put d (p .index k) (p .emit a k)
+going-turn : (p : Store) (a : Act) (l : List Act) (k : Counts) → Moves a k p → (all d₀ d e : List ℕ) → Going p (a ∷ l) k all d₀ d → e ≡ put d (p .index k) (p .emit a k)
     → Going p l (tally a k) all d₀ e
 unfolding emits
 going-turn p a l k v all d₀ d e g s = record {
@@ -207,55 +212,19 @@ going-done p k all d₀ d e g s h = s ∙ sym (g .filling .same) ∙ put-front a
 
 -- ---- all eight parts
 pub record Goings (l : List Act) (k : Counts) (s : Sentence) (d₀ d : Buffers) : Type 0 where
-  pub text-going : Going textStore l k (lay s .text-buf) (d₀ .text-buf) (d .text-buf)
-  pub types-going : Going typesStore l k (lay s .types-buf) (d₀ .types-buf) (d .types-buf)
-  pub boundaries-going : Going boundariesStore l k (lay s .boundaries-buf) (d₀ .boundaries-buf) (d .boundaries-buf)
-  pub char-pos-going : Going charPosStore l k (lay s .char-pos-buf) (d₀ .char-pos-buf) (d .char-pos-buf)
-  pub byte-pos-going : Going bytePosStore l k (lay s .byte-pos-buf) (d₀ .byte-pos-buf) (d .byte-pos-buf)
-  pub cell-starts-going : Going (cellStartsStore (s .columns)) l k (lay s .cell-starts-buf) (d₀ .cell-starts-buf) (d .cell-starts-buf)
-  pub cell-lengths-going : Going (cellLengthsStore (s .columns)) l k (lay s .cell-lengths-buf) (d₀ .cell-lengths-buf) (d .cell-lengths-buf)
-  pub tag-bytes-going : Going tagBytesStore l k (lay s .tag-bytes-buf) (d₀ .tag-bytes-buf) (d .tag-bytes-buf)
+  pub parts : Every (λ i. Going (part (stores (s .columns)) i) l k (part (lay s) i) (part d₀ i) (part d i))
   pub wide : widest k (gather l) ≤ s .columns
 
 -- the room that a sentence needs is that of its parts
-pub record Roomy (s : Sentence) (d : Buffers) : Type 0 where
-  pub text-fits : length (lay s .text-buf) ≤ length (d .text-buf)
-  pub types-fits : length (lay s .types-buf) ≤ length (d .types-buf)
-  pub boundaries-fits : length (lay s .boundaries-buf) ≤ length (d .boundaries-buf)
-  pub char-pos-fits : length (lay s .char-pos-buf) ≤ length (d .char-pos-buf)
-  pub byte-pos-fits : length (lay s .byte-pos-buf) ≤ length (d .byte-pos-buf)
-  pub cell-starts-fits : length (lay s .cell-starts-buf) ≤ length (d .cell-starts-buf)
-  pub cell-lengths-fits : length (lay s .cell-lengths-buf) ≤ length (d .cell-lengths-buf)
-  pub tag-bytes-fits : length (lay s .tag-bytes-buf) ≤ length (d .tag-bytes-buf)
+abbrev pub Roomy : Sentence → Buffers → Type 0
+Roomy s d = Each (λ x y. length x ≤ length y) (lay s) d
 
 pub roomy : (s : Sentence) (d : Buffers) → Formed s → roomFor (recordOf s) d ≡ true → Roomy s d
-unfolding roomFor recordOf lay
-roomy s d z =
-    let a = length-encodes (text s) in
-    let y = length-map (text s) typeOf in
-    let m = length-map (marks s) code in
-    let n = length-marks (s .cells) in
-    let c = length-starts 0 (text s) in
-    let b = length-numbers 0 (text s) in
-    let v = length-rows (s .cells) in
-    let w = length-cellsOf (s .columns) (rows s) (rows-are (s .columns) (s .cells) (z .cells-are)) ∙ ap (λ (i : ℕ). i * s .columns) v in
-    let e = length-cellStarts 0 (cellsOf (s .columns) (rows s)) in
-    let f = length-map (cellsOf (s .columns) (rows s)) size in
-    let g = length-bytesOf (tagsOf (rows s)) in
-    let h = bytes-tagsOf (rows s) in
-    simp reads (omega arith)
+roomy s d f h = every (λ i. omega (arith, one (parts-long s f) i, one (has-room (recordOf s) d h) i))
 
 pub goings-start : (l : List Act) (s : Sentence) (d : Buffers) → Emitted l s → Roomy s d → Goings l nothing s d d
-unfolding nothing spot textStore typesStore boundariesStore charPosStore bytePosStore cellStartsStore cellLengthsStore tagBytesStore
 goings-start l s d e r = record {
-  text-going = going-start textStore l _ _ refl (e .text-all) (r .text-fits);
-  types-going = going-start typesStore l _ _ refl (e .types-all) (r .types-fits);
-  boundaries-going = going-start boundariesStore l _ _ refl (e .boundaries-all) (r .boundaries-fits);
-  char-pos-going = going-start charPosStore l _ _ refl (e .char-pos-all) (r .char-pos-fits);
-  byte-pos-going = going-start bytePosStore l _ _ refl (e .byte-pos-all) (r .byte-pos-fits);
-  cell-starts-going = going-start (cellStartsStore (s .columns)) l _ _ refl (e .cell-starts-all) (r .cell-starts-fits);
-  cell-lengths-going = going-start (cellLengthsStore (s .columns)) l _ _ refl (e .cell-lengths-all) (r .cell-lengths-fits);
-  tag-bytes-going = going-start tagBytesStore l _ _ refl (e .tag-bytes-all) (r .tag-bytes-fits);
+  parts = every (λ i. going-start (part (stores (s .columns)) i) l _ _ (one (parts-start (s .columns)) i) (one (e .parts) i) (one r i));
   wide = e .wide;
 }
 
@@ -264,28 +233,12 @@ module _ (a : Act) (l : List Act) (k : Counts) (s : Sentence) (d₀ d : Buffers)
   goings-narrow = omega (arith, g .wide, widest-tags k (gather (a ∷ l)))
 
   pub goings-room : Room (s .columns) (λ (p : Store). p .emit a k) k d
-  goings-room = record {
-    text-room = going-room textStore a l k _ _ _ (g .text-going);
-    types-room = going-room typesStore a l k _ _ _ (g .types-going);
-    boundaries-room = going-room boundariesStore a l k _ _ _ (g .boundaries-going);
-    char-pos-room = going-room charPosStore a l k _ _ _ (g .char-pos-going);
-    byte-pos-room = going-room bytePosStore a l k _ _ _ (g .byte-pos-going);
-    cell-starts-room = going-room (cellStartsStore (s .columns)) a l k _ _ _ (g .cell-starts-going);
-    cell-lengths-room = going-room (cellLengthsStore (s .columns)) a l k _ _ _ (g .cell-lengths-going);
-    tag-bytes-room = going-room tagBytesStore a l k _ _ _ (g .tag-bytes-going);
-  }
+  goings-room = every (λ i. going-room (part (stores (s .columns)) i) a l k _ _ _ (one (g .parts) i))
 
   pub goings-turn : (e : Buffers) → Stored (s .columns) (λ (p : Store). p .emit a k) k d e → Goings l (tally a k) s d₀ e
   unfolding gather
   goings-turn e t = record {
-    text-going = going-turn textStore a l k (text-moves a k) _ _ _ _ (g .text-going) (t .text-is);
-    types-going = going-turn typesStore a l k (types-moves a k) _ _ _ _ (g .types-going) (t .types-is);
-    boundaries-going = going-turn boundariesStore a l k (boundaries-moves a k) _ _ _ _ (g .boundaries-going) (t .boundaries-is);
-    char-pos-going = going-turn charPosStore a l k (char-pos-moves a k) _ _ _ _ (g .char-pos-going) (t .char-pos-is);
-    byte-pos-going = going-turn bytePosStore a l k (byte-pos-moves a k) _ _ _ _ (g .byte-pos-going) (t .byte-pos-is);
-    cell-starts-going = going-turn (cellStartsStore (s .columns)) a l k (cell-starts-moves (s .columns) a k goings-narrow) _ _ _ _ (g .cell-starts-going) (t .cell-starts-is);
-    cell-lengths-going = going-turn (cellLengthsStore (s .columns)) a l k (cell-lengths-moves (s .columns) a k goings-narrow) _ _ _ _ (g .cell-lengths-going) (t .cell-lengths-is);
-    tag-bytes-going = going-turn tagBytesStore a l k (tag-bytes-moves a k) _ _ _ _ (g .tag-bytes-going) (t .tag-bytes-is);
+    parts = every (λ i. going-turn (part (stores (s .columns)) i) a l k (one (parts-move (s .columns) a k goings-narrow) i) _ _ _ _ (one (g .parts) i) (one (t .stored) i));
     wide = omega (arith, g .wide, widest-less a k (gather l));
   }
 
@@ -294,26 +247,24 @@ module _ (k : Counts) (s : Sentence) (d₀ d : Buffers) (g : Goings [] k s d₀ 
   pub goings-finish : Small k 4096 → s .columns ≤ 4096 → Finishing (s .columns) k (d .char-pos-buf) (d .byte-pos-buf) (d .cell-starts-buf) (d .cell-lengths-buf)
   unfolding emits charPosStore bytePosStore cellStartsStore cellLengthsStore
   goings-finish h w = record {
-    char-pos-room = omega (arith, g .char-pos-going .room);
-    byte-pos-room = omega (arith, g .byte-pos-going .room);
+    char-pos-room = omega (arith, g .parts .char-pos-is .room);
+    byte-pos-room = omega (arith, g .parts .byte-pos-is .room);
     row-room = record {
       small = h;
       narrow = record { few = w; fits = omega (arith, g .wide, widest-tags k (gather [])) };
-      starts-room = g .cell-starts-going .room;
-      lengths-room = g .cell-lengths-going .room;
+      starts-room = g .parts .cell-starts-is .room;
+      lengths-room = g .parts .cell-lengths-is .room;
     };
   }
 
+  -- the buffers, four of them with what the end stores
+  abbrev left : List ℕ → List ℕ → List ℕ → List ℕ → Buffers
+  left c b w e = buffers (d .text-buf) (d .types-buf) (d .boundaries-buf) c b w e (d .tag-bytes-buf)
+
   pub goings-done : {c b w e : List ℕ} → Roomy s d₀ → Finished (s .columns) k (d .char-pos-buf) (d .byte-pos-buf) (d .cell-starts-buf) (d .cell-lengths-buf) c b w e
-      → Same (laid s d₀) (buffers (d .text-buf) (d .types-buf) (d .boundaries-buf) c b w e (d .tag-bytes-buf))
+      → Same (laid s d₀) (left c b w e)
   unfolding laid textStore typesStore boundariesStore charPosStore bytePosStore cellStartsStore cellLengthsStore tagBytesStore
-  goings-done r f = record {
-    text-is = going-done textStore k _ _ _ _ (g .text-going) refl (r .text-fits);
-    types-is = going-done typesStore k _ _ _ _ (g .types-going) refl (r .types-fits);
-    boundaries-is = going-done boundariesStore k _ _ _ _ (g .boundaries-going) refl (r .boundaries-fits);
-    char-pos-is = going-done charPosStore k _ _ _ _ (g .char-pos-going) (f .char-pos-is) (r .char-pos-fits);
-    byte-pos-is = going-done bytePosStore k _ _ _ _ (g .byte-pos-going) (f .byte-pos-is) (r .byte-pos-fits);
-    cell-starts-is = going-done (cellStartsStore (s .columns)) k _ _ _ _ (g .cell-starts-going) (f .cell-starts-is) (r .cell-starts-fits);
-    cell-lengths-is = going-done (cellLengthsStore (s .columns)) k _ _ _ _ (g .cell-lengths-going) (f .cell-lengths-is) (r .cell-lengths-fits);
-    tag-bytes-is = going-done tagBytesStore k _ _ _ _ (g .tag-bytes-going) refl (r .tag-bytes-fits);
-  }
+  goings-done {c} {b} {w} {e} r f =
+      let ended : Every (λ (i : Which). StoredIn (λ (p : Store). p .last k) k (part (stores (s .columns)) i) (part d i) (part (left c b w e) i)) =
+      in-order refl refl refl (f .char-pos-is) (f .byte-pos-is) (f .cell-starts-is) (f .cell-lengths-is) refl in
+      every (λ i. rw (part-pairwise over (lay s) d₀ i) (going-done (part (stores (s .columns)) i) k _ _ _ _ (one (g .parts) i) (one ended i) (one r i)))

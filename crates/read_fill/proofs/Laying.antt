@@ -17,7 +17,9 @@ use Rattle.sentence.specs.Sentence.{Sentence, Formed}
 use Rattle.sentence.specs.Reading.{Form, Place, at, start, behind, inTag, gap, escaped, Act, skip, letter, opens, ofTag, Step, go, stop, advance, Run, whole, stopped, ending, finish, push, follow, run, gather, Result, sentence, refused, built, placed, read}
 use Rattle.sentence.specs.Reading as reading
 use Rattle.sentence.proofs.Shape.{ActOf, StepOf, read-formed}
-use Rattle.sheet.specs.Layout.{Buffers, buffers, recordOf, roomFor}
+use Rattle.sheet.specs.Eight.{Each}
+use Rattle.sheet.specs.Layout.{Buffers, buffers, Same, recordOf, roomFor}
+use Rattle.sheet.proofs.Eights.{every, one}
 use Rattle.read_state.specs.declared.State.{State}
 use Rattle.read_state.specs.declared.Stepped.{Stepped}
 use Rattle.read_state.specs.Flags.{stateOf, flags, actOf, stepped}
@@ -27,7 +29,7 @@ use Rattle.read_counts.specs.declared.Counts.{Counts}
 use Rattle.read_counts.specs.Counts.{Small, nothing, bytes, tallyBy, tally}
 use Rattle.read_counts.proofs.Bounds.{nothing-small, small-more, tally-small}
 use Rattle.read_stores.specs.Stores.{Store, Stored, Bytes, Turning, Finishing, Finished}
-use Rattle.read_fill.specs.Fill.{Fits, filled, Same}
+use Rattle.read_fill.specs.Fill.{Fits, filled}
 use Rattle.read_fill.proofs.Going.{emitted, Goings, roomy, goings-start, goings-narrow, goings-room, goings-turn, goings-finish, goings-done}
 
 -- ---- a line that reads to a sentence
@@ -99,17 +101,6 @@ pub record Span (x : List ℕ) (p n : ℕ) : Type 0 where
   pub few : n ≤ 4
   pub fits : p + n ≤ length x
   pub short : length x ≤ 4096
-
--- buffers as long as others
-pub record Long (d₀ d : Buffers) : Type 0 where
-  pub text-long : length (d .text-buf) ≡ length (d₀ .text-buf)
-  pub types-long : length (d .types-buf) ≡ length (d₀ .types-buf)
-  pub boundaries-long : length (d .boundaries-buf) ≡ length (d₀ .boundaries-buf)
-  pub char-pos-long : length (d .char-pos-buf) ≡ length (d₀ .char-pos-buf)
-  pub byte-pos-long : length (d .byte-pos-buf) ≡ length (d₀ .byte-pos-buf)
-  pub cell-starts-long : length (d .cell-starts-buf) ≡ length (d₀ .cell-starts-buf)
-  pub cell-lengths-long : length (d .cell-lengths-buf) ≡ length (d₀ .cell-lengths-buf)
-  pub tag-bytes-long : length (d .tag-bytes-buf) ≡ length (d₀ .tag-bytes-buf)
 
 -- ---- a character
 tally-width : (a : Act) (c : ℕ) (k : Counts) → ActOf c a → tallyBy (width c) a k ≡ tally a k
@@ -248,14 +239,5 @@ module _ {f : Form} {c : ℕ} {x : List ℕ} {σ : State} {k : Counts} {p : ℕ}
   lay-done l i = rw (h .reads) (goings-done k (h .s) d₀ d (over l) (roomy (h .s) d₀ lay-formed (h .room)) (rw (h .stride) at i))
 
   -- no buffer changes its length
-  pub lay-long : Long d₀ d
-  lay-long = record {
-    text-long = h .goings .text-going .filling .long;
-    types-long = h .goings .types-going .filling .long;
-    boundaries-long = h .goings .boundaries-going .filling .long;
-    char-pos-long = h .goings .char-pos-going .filling .long;
-    byte-pos-long = h .goings .byte-pos-going .filling .long;
-    cell-starts-long = h .goings .cell-starts-going .filling .long;
-    cell-lengths-long = h .goings .cell-lengths-going .filling .long;
-    tag-bytes-long = h .goings .tag-bytes-going .filling .long;
-  }
+  pub lay-long : Each (λ x y. length y ≡ length x) d₀ d
+  lay-long = every (λ i. one (h .goings .parts) i .filling .long)

@@ -14,14 +14,3 @@ Fits (refused n p) c d = ⊥
 unfoldable pub filled : Result → Buffers → Buffers
 filled (sentence s) d = laid s d
 filled (refused n p) d = d
-
--- the buffers e are the buffers b, one by one
-pub record Same (b e : Buffers) : Type 0 where
-  pub text-is : e .text-buf ≡ b .text-buf
-  pub types-is : e .types-buf ≡ b .types-buf
-  pub boundaries-is : e .boundaries-buf ≡ b .boundaries-buf
-  pub char-pos-is : e .char-pos-buf ≡ b .char-pos-buf
-  pub byte-pos-is : e .byte-pos-buf ≡ b .byte-pos-buf
-  pub cell-starts-is : e .cell-starts-buf ≡ b .cell-starts-buf
-  pub cell-lengths-is : e .cell-lengths-buf ≡ b .cell-lengths-buf
-  pub tag-bytes-is : e .tag-bytes-buf ≡ b .tag-bytes-buf

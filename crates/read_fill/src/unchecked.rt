@@ -4,9 +4,9 @@ use read_state::Form;
 use read_state::State;
 use types::blocks::Tables;
 ghost use Rattle.sentence.specs.Reading.{read};
-ghost use Rattle.sheet.specs.Layout.{lent, lentAfter, lentBefore};
+ghost use Rattle.sheet.specs.Layout.{Same, lent, lentAfter, lentBefore};
 ghost use Rattle.read_state.specs.Flags.{formOf};
-ghost use Rattle.read_fill.specs.Fill.{Fits, Same, filled};
+ghost use Rattle.read_fill.specs.Fill.{Fits, filled};
 
 // One pass over the line: its characters step the reader again, and what they do is stored.
 pub fn fill(

@@ -11,7 +11,7 @@ use Rattle.types.specs.TypeOf.{typeOf}
 use Rattle.sentence.specs.Sentence.{code}
 use Rattle.sentence.specs.Reading as reading
 use Rattle.sheet.specs.Layout.{Buffers, buffers}
-use Rattle.sheet.proofs.Eights.{rows}
+use Rattle.sheet.proofs.Eights.{in-order}
 use Rattle.read_state.specs.declared.Act.the-variants.{Skip, Letter, Opens, OfTag}
 use Rattle.read_state.specs.declared.Mark.{Mark}
 use Rattle.read_state.specs.declared.Stepped.{Stepped}
@@ -72,12 +72,12 @@ pub letter-stored : (z : ℕ) (s : Stepped) {k : Counts} {line : List ℕ} {at n
 unfolding actBy actOf textStore typesStore boundariesStore charPosStore bytePosStore cellStartsStore cellLengthsStore tagBytesStore onLetter cellsAt tagByte
 letter-stored z s {k} {line} {at} {n} i h et er eo eb ec =
     let l = letter-room z s k line at n _ i h in
-    record { stored = rows (rw i (et ∙ rw (l .bytes))) (rw (i, er)) (rw i eo) (rw i) (rw (i, ← (l .wide)) eb) (rw i (ec .0)) (rw i (ec .1)) (rw i) }
+    record { stored = in-order (rw i (et ∙ rw (l .bytes))) (rw (i, er)) (rw i eo) (rw i) (rw (i, ← (l .wide)) eb) (rw i (ec .0)) (rw i (ec .1)) (rw i) }
 
 -- ---- nothing
 pub skip-stored : (z : ℕ) (s : Stepped) {k : Counts} {d : Buffers} → s .act ≡ Skip → Stored z (λ (q : Store). q .emit (actOf s) k) k d d
 unfolding actBy actOf textStore typesStore boundariesStore charPosStore bytePosStore cellStartsStore cellLengthsStore tagBytesStore onLetter cellsAt tagByte
-skip-stored z s i = record { stored = rows (rw i) (rw i) (rw i) (rw i) (rw i) (rw i) (rw i) (rw i) }
+skip-stored z s i = record { stored = in-order (rw i) (rw i) (rw i) (rw i) (rw i) (rw i) (rw i) (rw i) }
 
 -- ---- a tag begins
 pub opens-room : (z : ℕ) (s : Stepped) (k : Counts) (line : List ℕ) (at n : ℕ) (d : Buffers) → s .act ≡ Opens → Turning z (actOf s) k line at n d
@@ -91,7 +91,7 @@ pub opens-stored : (z : ℕ) (s : Stepped) {k : Counts} {t y o p b w e g w′ e�
     → (w′ ≡ put w (place z k) (openCell (k .n) (k .tag) (k .g - k .long))) × (e′ ≡ put e (place z k) (openCell (k .n) (k .tag) (k .long)))
     → Stored z (λ (q : Store). q .emit (actOf s) k) k (buffers t y o p b w e g) (buffers t y o p b w′ e′ g)
 unfolding actBy actOf textStore typesStore boundariesStore charPosStore bytePosStore cellStartsStore cellLengthsStore tagBytesStore onLetter cellsAt tagByte
-opens-stored z s i ec = record { stored = rows (rw i) (rw i) (rw i) (rw i) (rw i) (rw i (ec .0)) (rw i (ec .1)) (rw i) }
+opens-stored z s i ec = record { stored = in-order (rw i) (rw i) (rw i) (rw i) (rw i) (rw i (ec .0)) (rw i (ec .1)) (rw i) }
 
 -- ---- a character of a tag
 pub record TagRoom (k : Counts) (line : List ℕ) (at n : ℕ) (d : Buffers) : Type 0 where
@@ -119,4 +119,4 @@ pub tag-stored : (z : ℕ) (s : Stepped) {k : Counts} {line : List ℕ} {at n : 
 unfolding actBy actOf textStore typesStore boundariesStore charPosStore bytePosStore cellStartsStore cellLengthsStore tagBytesStore onLetter cellsAt tagByte
 tag-stored z s {k} {line} {at} {n} i h eg =
     let x : take n (drop at line) ≡ encode (s .c) = (rw i at h) .bytes in
-    record { stored = rows (rw i) (rw i) (rw i) (rw i) (rw i) (rw i) (rw i) (rw (i, ← x) eg) }
+    record { stored = in-order (rw i) (rw i) (rw i) (rw i) (rw i) (rw i) (rw i) (rw (i, ← x) eg) }

@@ -5,8 +5,8 @@ use Rattle.sheet.specs.Eight.{Which, the-text, the-types, the-boundaries
 use Rattle.sheet.specs.Layout.{Buffers, Same}
 
 -- in the order of the buffers, and by a rule
-pub rows : {P : Which → Type 0} → P the-text → P the-types → P the-boundaries → P the-char-pos → P the-byte-pos → P the-cell-starts → P the-cell-lengths → P the-tag-bytes → Every P
-rows t y m c b w e g = record {
+pub in-order : {P : Which → Type 0} → P the-text → P the-types → P the-boundaries → P the-char-pos → P the-byte-pos → P the-cell-starts → P the-cell-lengths → P the-tag-bytes → Every P
+in-order t y m c b w e g = record {
   text-is = t;
   types-is = y;
   boundaries-is = m;
@@ -18,7 +18,7 @@ rows t y m c b w e g = record {
 }
 
 pub every : {P : Which → Type 0} → ((i : Which) → P i) → Every P
-every f = rows (f the-text) (f the-types) (f the-boundaries) (f the-char-pos) (f the-byte-pos) (f the-cell-starts) (f the-cell-lengths) (f the-tag-bytes)
+every f = in-order (f the-text) (f the-types) (f the-boundaries) (f the-char-pos) (f the-byte-pos) (f the-cell-starts) (f the-cell-lengths) (f the-tag-bytes)
 
 pub one : {P : Which → Type 0} → Every P → (i : Which) → P i
 one h the-text = h .text-is
@@ -54,7 +54,7 @@ all-true t h = rw (h .text-is, h .types-is, h .boundaries-is, h .char-pos-is, h 
 
 pub true-all : (t : Which → Bool) → all t ≡ true → Every (λ (i : Which). t i ≡ true)
 unfolding all
-true-all t h = let (((((((a, b), c), d), e), f), g), i) = simp and-eq-true-iff at h in rows a b c d e f g i
+true-all t h = let (((((((a, b), c), d), e), f), g), i) = simp and-eq-true-iff at h in in-order a b c d e f g i
 
 -- ---- buffers that are the same
 pub same-self : (d : Buffers) → Same d d

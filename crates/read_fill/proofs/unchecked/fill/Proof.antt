@@ -58,28 +58,28 @@ finish-requires : tie.Need-finish-requires Inv-loop μ-loop
 finish-requires c κs = lay-finishing (c .before .before .before .before .before .loop .inv) (c .before .before .before .before .loop-test .left)
 
 same-length : tie.Need-same-length Inv-loop μ-loop
-same-length c = lay-long (c .before .before .before .before .before .before .before .before .before .before .before .before .before .before .loop .inv) .text-long
+same-length c = lay-long (c .before .before .before .before .before .before .before .before .before .before .before .before .before .before .loop .inv) .text-is
 
 same-length-2 : tie.Need-same-length-2 Inv-loop μ-loop
-same-length-2 c = lay-long (c .before .before .before .before .before .before .before .before .before .before .before .before .before .before .loop .inv) .types-long
+same-length-2 c = lay-long (c .before .before .before .before .before .before .before .before .before .before .before .before .before .before .loop .inv) .types-is
 
 same-length-3 : tie.Need-same-length-3 Inv-loop μ-loop
-same-length-3 c = lay-long (c .before .before .before .before .before .before .before .before .before .before .before .before .before .before .loop .inv) .boundaries-long
+same-length-3 c = lay-long (c .before .before .before .before .before .before .before .before .before .before .before .before .before .before .loop .inv) .boundaries-is
 
 same-length-4 : tie.Need-same-length-4 Inv-loop μ-loop
-same-length-4 c = c .before .before .before .before .before .before .before .before .finish .kept .1 .1 .0 ∙ lay-long (c .before .before .before .before .before .before .before .before .before .before .before .before .before .before .loop .inv) .char-pos-long
+same-length-4 c = c .before .before .before .before .before .before .before .before .finish .kept .1 .1 .0 ∙ lay-long (c .before .before .before .before .before .before .before .before .before .before .before .before .before .before .loop .inv) .char-pos-is
 
 same-length-5 : tie.Need-same-length-5 Inv-loop μ-loop
-same-length-5 c = c .before .before .before .before .before .before .before .before .finish .kept .1 .1 .1 .0 ∙ lay-long (c .before .before .before .before .before .before .before .before .before .before .before .before .before .before .loop .inv) .byte-pos-long
+same-length-5 c = c .before .before .before .before .before .before .before .before .finish .kept .1 .1 .1 .0 ∙ lay-long (c .before .before .before .before .before .before .before .before .before .before .before .before .before .before .loop .inv) .byte-pos-is
 
 same-length-6 : tie.Need-same-length-6 Inv-loop μ-loop
-same-length-6 c = c .before .before .before .before .before .before .before .before .finish .kept .1 .1 .1 .1 .0 ∙ lay-long (c .before .before .before .before .before .before .before .before .before .before .before .before .before .before .loop .inv) .cell-starts-long
+same-length-6 c = c .before .before .before .before .before .before .before .before .finish .kept .1 .1 .1 .1 .0 ∙ lay-long (c .before .before .before .before .before .before .before .before .before .before .before .before .before .before .loop .inv) .cell-starts-is
 
 same-length-7 : tie.Need-same-length-7 Inv-loop μ-loop
-same-length-7 c = c .before .before .before .before .before .before .before .before .finish .kept .1 .1 .1 .1 .1 .0 ∙ lay-long (c .before .before .before .before .before .before .before .before .before .before .before .before .before .before .loop .inv) .cell-lengths-long
+same-length-7 c = c .before .before .before .before .before .before .before .before .finish .kept .1 .1 .1 .1 .1 .0 ∙ lay-long (c .before .before .before .before .before .before .before .before .before .before .before .before .before .before .loop .inv) .cell-lengths-is
 
 same-length-8 : tie.Need-same-length-8 Inv-loop μ-loop
-same-length-8 c = lay-long (c .before .before .before .before .before .before .before .before .before .before .before .before .before .before .loop .inv) .tag-bytes-long
+same-length-8 c = lay-long (c .before .before .before .before .before .before .before .before .before .before .before .before .before .before .loop .inv) .tag-bytes-is
 
 returns : tie.Need-returns Inv-loop μ-loop
 returns c = lay-done (c .before .before .before .before .before .before .before .before .before .before .before .before .before .before .loop .inv) (c .before .before .before .before .before .before .before .before .before .before .before .before .before .loop-test .left) (c .before .before .before .before .before .before .before .before .finish .ensures)
