@@ -1,12 +1,11 @@
 -- Where a change answers a sentence, its record and the buffers hold the changed sentence. Assumes nothing.
-use Prim.Native.Nat.{ℕ, _+_, _-_, _*_, _≤_}
+use Prim.Native.Nat.{ℕ, _*_, _≤_}
 use native.Mathlib.Omega.{arith}
 use mathlib.Core.Path.{_≡_, refl, sym, subst, ap, _∙_}
 use mathlib.Core.Bool.{true, false}
 use mathlib.Core.List.{List}
 use borrow.Author.Tests.{not-false, ltb-false}
 use lib.ListN.{length}
-use Rattle.laws.proofs.Facts.{reads}
 use Rattle.utf8.specs.Utf8.{scalar, width, size}
 use Rattle.laws.specs.If.{if_then_else_}
 use Rattle.sentence.specs.declared.Refusal.{Refusal}
@@ -16,9 +15,10 @@ use Rattle.sentence.specs.Refusals.{Check, verdict}
 use Rattle.sheet.specs.declared.Record.{Record}
 use Rattle.sheet.specs.declared.Answer.{Answer}
 use Rattle.sheet.specs.declared.Answer.the-variants as answer
-use Rattle.sheet.specs.Layout.{Buffers, buffers, recordOf, laid, roomFor, Holds, spell, markOf}
+use Rattle.sheet.specs.Layout.{Buffers, recordOf, roomFor, Holds, spell, markOf}
 use Rattle.sheet.proofs.Held.{laid-holds}
-use Rattle.sheet.proofs.Exact.{is-sheet}
+use Rattle.sheet.proofs.Eights.{same-is}
+use Rattle.sheet.proofs.Exact.{room-has, is-sheet}
 use Rattle.sheet.proofs.Look.{bounds, Passed, passed, neither}
 use Rattle.changes.specs.Changes.{Lays, DefaultSet, defaultAnswer, BoundarySet, boundaryAnswer, TagsReset, lackCells, resetAnswer}
 use Rattle.changes.proofs.Changed.{text-set, rows-set, set-formed, text-bare, rows-bare, no-tag-bytes, reset-formed}
@@ -31,12 +31,6 @@ blank-formed = record { cells-are = (record { is-scalar = refl; not-nul = refl }
 apart : (q : Record) (x : Refusal) → answer.Refused x ≡ answer.Sentence q → ⊥
 apart q x e = let z : _≡_ {A = ℕ} 0 1 = cc in omega arith
 
-roomy : (q : Record) (d : Buffers) → q .b ≤ length (d .text-buf) → q .n ≤ length (d .types-buf) → q .n - 1 ≤ length (d .boundaries-buf)
-    → q .n + 1 ≤ length (d .char-pos-buf) → q .b + 1 ≤ length (d .byte-pos-buf) → q .cells ≤ length (d .cell-starts-buf)
-    → q .cells ≤ length (d .cell-lengths-buf) → q .g ≤ length (d .tag-bytes-buf) → roomFor q d ≡ true
-unfolding roomFor
-roomy q d h₁ h₂ h₃ h₄ h₅ h₆ h₇ h₈ = simp reads (omega arith)
-
 -- the room of a sentence whose text is the held one's, and that has no more tag bytes, where there is room for its cells
 pub room-kept : {r : Record} {d : Buffers} {s : Sentence} → Holds r d s → (t : Sentence) → text t ≡ text s → r .n * t .columns ≤ length (d .cell-starts-buf) → r .n * t .columns ≤ length (d .cell-lengths-buf) → tagBytes (rows t) ≤ r .g → roomFor (recordOf t) d ≡ true
 unfolding recordOf
@@ -45,7 +39,7 @@ room-kept {r} {d} {s} h t e k l g =
     let n : length (text t) ≡ r .n = ap length e ∙ sym (b .n-is) in
     let m : size (text t) ≡ r .b = ap size e ∙ sym (b .b-is) in
     let w : length (text t) * t .columns ≡ r .n * t .columns = ap (λ (i : ℕ). i * t .columns) n in
-    roomy (recordOf t) d (omega arith) (omega arith) (omega arith) (omega arith) (omega arith) (omega arith) (omega arith) (omega arith)
+    room-has (recordOf t) d (omega arith)
 
 -- the held sentence's cells, by its columns
 kept-columns : {r : Record} {d : Buffers} {s : Sentence} → Holds r d s → r .n * s .columns ≡ r .cells
@@ -65,11 +59,7 @@ lays-holds cs t d a e q l h fits =
     let f = fits (p .0) in
     let x : recordOf t ≡ q = cc (p .1) in
     let m : Lays (verdict answer.Refused cs (answer.Sentence (recordOf t))) t d (answer.Sentence q) e = rw h at l in
-    let same : whole (laid t d) ≡ whole e = cc in
-    subst (λ (y : Buffers). Holds q y t) same (rw x at (laid-holds t d (f .0) (f .1)))
-  where
-    whole : Buffers → Buffers
-    whole y = buffers (y .text-buf) (y .types-buf) (y .boundaries-buf) (y .char-pos-buf) (y .byte-pos-buf) (y .cell-starts-buf) (y .cell-lengths-buf) (y .tag-bytes-buf)
+    subst (λ (y : Buffers). Holds q y t) (sym (same-is (m .leaves))) (rw x at (laid-holds t d (f .0) (f .1)))
 
 -- ---- each call
 pub default-holds : (d : Buffers) (a : Answer) (e : Buffers) (q : Record) → DefaultSet d a e → a ≡ answer.Sentence q → Holds q e blank

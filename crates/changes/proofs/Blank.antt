@@ -15,7 +15,9 @@ use Rattle.types.specs.TypeOf.{find, ranges, typeOf}
 use Rattle.sentence.specs.Sentence.{textOf, marksOf, rowsOf, starts, numbers, pad, rowBytes, tagBytes}
 use Rattle.sentence.specs.Writing.{blank}
 use Rattle.sentence.specs.Refusals.{verdict}
-use Rattle.sheet.specs.Layout.{Buffers, buffers, recordOf, tagsOf, cellsOf, cellStarts, bytesOf, lay, laid, roomFor}
+use Rattle.sheet.specs.Layout.{Buffers, buffers, recordOf, tagsOf, cellsOf, cellStarts, bytesOf, lay, laid, enough, roomFor}
+use Rattle.sheet.specs.Eight.{all}
+use Rattle.sheet.proofs.Eights.{in-order, same-self}
 use Rattle.sheet.specs.declared.Answer.the-variants as answer
 use Rattle.changes.specs.Changes.{DefaultSet, defaultAnswer}
 
@@ -25,7 +27,7 @@ fits d = leb 1 (length (d .text-buf)) && leb 1 (length (d .types-buf)) && leb 2 
 
 -- boundaries and tags need no room
 pub room-is : (d : Buffers) → roomFor (recordOf blank) d ≡ fits d
-unfolding blank recordOf roomFor textOf rowsOf size width rowBytes tagBytes if_then_else_
+unfolding blank recordOf roomFor enough all textOf rowsOf size width rowBytes tagBytes if_then_else_
 room-is d = simp (leb·zero, and-true)
 
 -- what the tests say of the lengths
@@ -41,17 +43,7 @@ room d = simp reads (omega arith)
 -- the way through `set_default` that refuses
 pub blank-refused : (d : Buffers) (r : Bool) → r ≡ fits d → not r ≡ true → DefaultSet d (answer.Refused (record { number = 15; place = 0 })) d
 unfolding defaultAnswer verdict if_then_else_
-blank-refused d r e h = record {
-  answer-is = rw (room-is d, ← e, not-true r h);
-  text-is = refl;
-  types-is = refl;
-  boundaries-is = refl;
-  char-pos-is = refl;
-  byte-pos-is = refl;
-  cell-starts-is = refl;
-  cell-lengths-is = refl;
-  tag-bytes-is = refl;
-}
+blank-refused d r e h = record { answer-is = rw (room-is d, ← e, not-true r h); leaves = same-self d }
 
 -- and the way that lays the sentence down
 pub blank-laid : (d : Buffers) (r : Bool) → r ≡ fits d → not r ≡ false
@@ -62,14 +54,9 @@ blank-laid d r e h =
     let k = room d (sym e ∙ not-false r h) in
     record {
       answer-is = rw (room-is d, ← e, not-false r h);
-      text-is = put-front (32 ∷ []) (d .text-buf) (k .text-room);
-      types-is = put-front (6 ∷ []) (d .types-buf) (k .types-room);
-      boundaries-is = refl;
-      char-pos-is = put-front (0 ∷ 1 ∷ []) (d .char-pos-buf) (k .char-pos-room);
-      byte-pos-is = put-front (0 ∷ 1 ∷ []) (d .byte-pos-buf) (k .byte-pos-room);
-      cell-starts-is = refl;
-      cell-lengths-is = refl;
-      tag-bytes-is = refl;
+      leaves =
+          in-order (put-front (32 ∷ []) (d .text-buf) (k .text-room)) (put-front (6 ∷ []) (d .types-buf) (k .types-room)) refl
+          (put-front (0 ∷ 1 ∷ []) (d .char-pos-buf) (k .char-pos-room)) (put-front (0 ∷ 1 ∷ []) (d .byte-pos-buf) (k .byte-pos-room)) refl refl refl;
     }
 
 -- the lengths that each store needs

@@ -10,8 +10,10 @@ use Rattle.utf8.specs.Utf8.{size}
 use Rattle.sentence.specs.Sentence.{code, Sentence, text, marks, rows, pad}
 use Rattle.sentence.specs.Writing.{setBoundary, resetTags}
 use Rattle.sheet.specs.declared.Record.{Record}
+use Rattle.sheet.specs.Eight.{Which, the-text, the-types, the-boundaries, the-char-pos, the-byte-pos, the-cell-starts, the-cell-lengths, the-tag-bytes, part}
 use Rattle.sheet.specs.Layout.{Buffers, buffers, recordOf, tagsOf, cellsOf, cellStarts, bytesOf, lay, laid, Holds, markOf}
-use Rattle.sheet.proofs.Held.{Prefix, text-held, types-held, boundaries-held, char-pos-held, byte-pos-held, cell-starts-held, cell-lengths-held, tag-bytes-held}
+use Rattle.sheet.proofs.Eights.{in-order, one, part-pairwise}
+use Rattle.sheet.proofs.Held.{parts-held, Prefix, boundaries-held}
 use Rattle.sheet.proofs.Look.{bounds, prefix-whole, prefix-length}
 use Rattle.sheet.specs.declared.Answer.the-variants as answer
 use Rattle.changes.specs.Changes.{Laid}
@@ -80,40 +82,10 @@ zeros-long n = length-replicate n 0
 pub ruleset zeros = (zeros-step, zeros-none, zeros-all, zeros-long)
 
 module _ {r : Record} {d : Buffers} {s : Sentence} (h : Holds r d s) where
-  -- ---- buffers that stay
-  module _ (t : Sentence) (e : text t ≡ text s) where
-    pub text-kept : laid t d .text-buf ≡ d .text-buf
-    unfolding lay laid
-    text-kept = rw e (over-same (text-held h))
-
-    pub types-kept : laid t d .types-buf ≡ d .types-buf
-    unfolding lay laid
-    types-kept = rw e (over-same (types-held h))
-
-    pub char-pos-kept : laid t d .char-pos-buf ≡ d .char-pos-buf
-    unfolding lay laid
-    char-pos-kept = rw e (over-same (char-pos-held h))
-
-    pub byte-pos-kept : laid t d .byte-pos-buf ≡ d .byte-pos-buf
-    unfolding lay laid
-    byte-pos-kept = rw e (over-same (byte-pos-held h))
-
-  pub boundaries-kept : (t : Sentence) → marks t ≡ marks s → laid t d .boundaries-buf ≡ d .boundaries-buf
-  unfolding lay laid
-  boundaries-kept t e = rw e (over-same (boundaries-held h))
-
-  module _ (t : Sentence) (e : rows t ≡ rows s) (w : t .columns ≡ s .columns) where
-    pub cell-starts-kept : laid t d .cell-starts-buf ≡ d .cell-starts-buf
-    unfolding lay laid
-    cell-starts-kept = rw (e, w) (over-same (cell-starts-held h))
-
-    pub cell-lengths-kept : laid t d .cell-lengths-buf ≡ d .cell-lengths-buf
-    unfolding lay laid
-    cell-lengths-kept = rw (e, w) (over-same (cell-lengths-held h))
-
-    pub tag-bytes-kept : laid t d .tag-bytes-buf ≡ d .tag-bytes-buf
-    unfolding lay laid
-    tag-bytes-kept = rw e (over-same (tag-bytes-held h))
+  -- a buffer stays whose part is the same
+  pub stays : (t : Sentence) (i : Which) → part (lay t) i ≡ part (lay s) i → part d i ≡ part (laid t d) i
+  unfolding laid
+  stays t i e = sym (rw (part-pairwise over (lay t) d i, e) (over-same (one (parts-held h) i)))
 
   -- ---- a boundary that is set
   pub boundary-laid : (i v : ℕ) → i < r .n - 1 → v ≤ 2 → laid (setBoundary i (markOf v) s) d .boundaries-buf ≡ set (d .boundaries-buf) i v
@@ -140,27 +112,22 @@ module _ {r : Record} {d : Buffers} {s : Sentence} (h : Holds r d s) where
   pub boundary-lays : (i v : ℕ) → i < r .n - 1 → v ≤ 2
       → Laid (setBoundary i (markOf v) s) d (answer.Sentence r)
       (buffers (d .text-buf) (d .types-buf) (set (d .boundaries-buf) i v) (d .char-pos-buf) (d .byte-pos-buf) (d .cell-starts-buf) (d .cell-lengths-buf) (d .tag-bytes-buf))
-  unfolding recordOf setBoundary
+  unfolding lay recordOf setBoundary
   boundary-lays i v k l =
       let t = setBoundary i (markOf v) s in
       let x : text t ≡ text s = text-set i (markOf v) (s .cells) in
       let y : rows t ≡ rows s = rows-set i (markOf v) (s .cells) in
       record {
         answer-is = rw (h .record-is, x, y);
-        text-is = sym (text-kept t x);
-        types-is = sym (types-kept t x);
-        boundaries-is = sym (boundary-laid i v k l);
-        char-pos-is = sym (char-pos-kept t x);
-        byte-pos-is = sym (byte-pos-kept t x);
-        cell-starts-is = sym (cell-starts-kept t y refl);
-        cell-lengths-is = sym (cell-lengths-kept t y refl);
-        tag-bytes-is = sym (tag-bytes-kept t y refl);
+        leaves =
+            in-order (stays t the-text (rw x)) (stays t the-types (rw x)) (sym (boundary-laid i v k l)) (stays t the-char-pos (rw x)) (stays t the-byte-pos (rw x))
+            (stays t the-cell-starts (rw y)) (stays t the-cell-lengths (rw y)) (stays t the-tag-bytes (rw y));
       }
 
   pub reset-lays : (c : ℕ) (b l : List ℕ) → b ≡ replicate (r .n * c) 0 ++ drop (r .n * c) (d .cell-starts-buf) → l ≡ replicate (r .n * c) 0 ++ drop (r .n * c) (d .cell-lengths-buf)
       → Laid (resetTags c s) d (answer.Sentence (record { n = r .n; b = r .b; columns = c; cells = r .n * c; g = 0 }))
       (buffers (d .text-buf) (d .types-buf) (d .boundaries-buf) (d .char-pos-buf) (d .byte-pos-buf) b l (d .tag-bytes-buf))
-  unfolding recordOf resetTags
+  unfolding lay recordOf resetTags
   reset-lays c v l e f =
       let t = resetTags c s in
       let x : text t ≡ text s = text-bare (s .cells) in
@@ -169,12 +136,7 @@ module _ {r : Record} {d : Buffers} {s : Sentence} (h : Holds r d s) where
       let y : rows t ≡ replicate (r .n) [] = rw n (rows-bare (s .cells)) in
       record {
         answer-is = rw (x, y, no-tag-bytes, ← n, ← b);
-        text-is = sym (text-kept t x);
-        types-is = sym (types-kept t x);
-        boundaries-is = sym (boundaries-kept t (marks-bare (s .cells)));
-        char-pos-is = sym (char-pos-kept t x);
-        byte-pos-is = sym (byte-pos-kept t x);
-        cell-starts-is = e ∙ sym (cell-starts-reset t y ∙ rw length-replicate);
-        cell-lengths-is = f ∙ sym (cell-lengths-reset t y ∙ rw length-replicate);
-        tag-bytes-is = sym (tag-bytes-reset t y);
+        leaves =
+            in-order (stays t the-text (rw x)) (stays t the-types (rw x)) (stays t the-boundaries (rw (marks-bare (s .cells)))) (stays t the-char-pos (rw x)) (stays t the-byte-pos (rw x))
+            (e ∙ sym (cell-starts-reset t y ∙ rw length-replicate)) (f ∙ sym (cell-lengths-reset t y ∙ rw length-replicate)) (sym (tag-bytes-reset t y));
       }

@@ -2,34 +2,27 @@
 use Prim.Native.Nat.{ℕ, _-_, _*_}
 use mathlib.Core.Path.{_≡_}
 use mathlib.Core.Bool.{Bool, false, not, _||_}
-use mathlib.Core.List.{List, [], _∷_}
+use mathlib.Core.List.{[], _∷_}
 use lib.Dec.{leb, ltb}
 use lib.ListN.{length}
 use Rattle.sentence.specs.Sentence.{Sentence, count}
 use Rattle.sentence.specs.Writing.{setBoundary, resetTags, blank}
 use Rattle.sentence.specs.Refusals.{check, verdict, sheetOrder}
-use Rattle.sheet.specs.Layout.{Buffers, recordOf, laid, roomFor, markOf, spell}
+use Rattle.sheet.specs.Layout.{Buffers, Same, recordOf, laid, roomFor, markOf, spell}
 use Rattle.sheet.specs.Check.{isSheet}
 use Rattle.sheet.specs.declared.Record.{Record}
 use Rattle.sheet.specs.declared.Answer.{Answer}
 use Rattle.sheet.specs.declared.Answer.the-variants as answer
 
--- a buffer after an answer: what a sentence leaves there, or what it held
-abbrev pub after : Answer → List ℕ → List ℕ → List ℕ
+-- the buffers after an answer: what a sentence leaves, or what they held
+abbrev pub after : Answer → Buffers → Buffers → Buffers
 after (answer.Sentence r) new old = new
 after (answer.Refused x) new old = old
 
 -- the answer r and the buffers e after a call on the buffers d that answers a, and lays s down where that is a sentence
 pub record Lays (a : Answer) (s : Sentence) (d : Buffers) (r : Answer) (e : Buffers) : Type 0 where
   pub answer-is : r ≡ a
-  pub text-is : e .text-buf ≡ after r (laid s d .text-buf) (d .text-buf)
-  pub types-is : e .types-buf ≡ after r (laid s d .types-buf) (d .types-buf)
-  pub boundaries-is : e .boundaries-buf ≡ after r (laid s d .boundaries-buf) (d .boundaries-buf)
-  pub char-pos-is : e .char-pos-buf ≡ after r (laid s d .char-pos-buf) (d .char-pos-buf)
-  pub byte-pos-is : e .byte-pos-buf ≡ after r (laid s d .byte-pos-buf) (d .byte-pos-buf)
-  pub cell-starts-is : e .cell-starts-buf ≡ after r (laid s d .cell-starts-buf) (d .cell-starts-buf)
-  pub cell-lengths-is : e .cell-lengths-buf ≡ after r (laid s d .cell-lengths-buf) (d .cell-lengths-buf)
-  pub tag-bytes-is : e .tag-bytes-buf ≡ after r (laid s d .tag-bytes-buf) (d .tag-bytes-buf)
+  pub leaves : Same (after r (laid s d) d) e
 
 -- the same of a call that always lays s down
 abbrev pub Laid : Sentence → Buffers → Answer → Buffers → Type 0

@@ -12,13 +12,13 @@ use Rattle.sentence.specs.declared.Refusal.{Refusal}
 use Rattle.sentence.specs.Sentence.{Sentence}
 use Rattle.sentence.specs.Reading.{Form, Result, sentence, refused, read}
 use Rattle.sentence.specs.Refusals.{refusal, verdict, hostOrder}
-use Rattle.sheet.specs.Layout.{Buffers, recordOf, spell}
+use Rattle.sheet.specs.Layout.{Buffers, Same, recordOf, spell}
 use Rattle.sheet.specs.declared.Record.{Record}
 use Rattle.sheet.specs.declared.Answer.{Answer}
 use Rattle.sheet.specs.declared.Answer.the-variants as answer
 use Rattle.sheet.proofs.Held.{spelled}
 use Rattle.read_scan.specs.Scan.{scanned}
-use Rattle.read_fill.specs.Fill.{filled, Same}
+use Rattle.read_fill.specs.Fill.{filled}
 use Rattle.convert_buffers.specs.Between.{Outcome, writes, refuses, overfull, between, answerOf, outputOf, Converts}
 use Rattle.convert_buffers.specs.Through.{Scanned, Wide, writing}
 use Rattle.convert_buffers.specs.declared.Converted.{Converted}

@@ -1,22 +1,23 @@
 -- Buffers as long as a line, with as many cells as its sentence, have room for it. Assumes nothing.
-use Prim.Native.Nat.{ℕ, _+_, _-_, _≤_}
+use Prim.Native.Nat.{ℕ, _≤_}
 use native.Mathlib.Omega.{arith}
 use mathlib.Core.Path.{_≡_, refl, ap}
 use mathlib.Core.Bool.{true}
 use mathlib.Core.List.{List, [], _∷_}
 use lib.ListN.{length}
-use Rattle.laws.proofs.Facts.{reads}
 use Rattle.utf8.specs.Utf8.{size}
 use Rattle.utf8.proofs.Codec.{width-small}
 use Rattle.sentence.specs.Sentence.{Sentence, text}
 use Rattle.sentence.specs.Reading.{Form, Result, sentence, refused, read}
 use Rattle.sentence.proofs.Shape.{read-formed, read-light}
-use Rattle.sheet.specs.Layout.{Buffers, recordOf, roomFor, spell, Holds, Sheet}
+use Rattle.sheet.specs.Layout.{Buffers, Same, recordOf, roomFor, Holds, Sheet}
 use Rattle.sheet.specs.declared.Record.{Record}
 use Rattle.sheet.specs.declared.Answer.the-variants as answer
+use Rattle.sheet.proofs.Eights.{same-is}
+use Rattle.sheet.proofs.Exact.{room-has}
 use Rattle.sheet.proofs.Held.{laid-holds, spelled}
 use Rattle.read_scan.specs.Scan.{scanned}
-use Rattle.read_fill.specs.Fill.{Fits, filled, Same}
+use Rattle.read_fill.specs.Fill.{Fits, filled}
 use Rattle.convert_buffers.specs.Through.{Scanned, Wide}
 
 -- a character takes a byte at least
@@ -26,21 +27,8 @@ count-size [] = omega arith
 count-size (c ∷ cs) = omega (arith, width-small c, count-size cs)
 
 wide-room : (f : Form) (x : List ℕ) (s : Sentence) (d : Buffers) → read f x ≡ sentence s → Wide (length x) (recordOf s .cells) d → roomFor (recordOf s) d ≡ true
-unfolding roomFor recordOf
-wide-room f x s d e w = simp reads (omega (arith, read-light f x s e, count-size (text s), w))
-
--- buffers that are the same one by one
-same-is : {b e : Buffers} → Same b e → e ≡ b
-same-is m = λ i. record {
-  text-buf = m .text-is i;
-  types-buf = m .types-is i;
-  boundaries-buf = m .boundaries-is i;
-  char-pos-buf = m .char-pos-is i;
-  byte-pos-buf = m .byte-pos-is i;
-  cell-starts-buf = m .cell-starts-is i;
-  cell-lengths-buf = m .cell-lengths-is i;
-  tag-bytes-buf = m .tag-bytes-is i;
-}
+unfolding recordOf
+wide-room f x s d e w = room-has (recordOf s) d (omega (arith, read-light f x s e, count-size (text s), w))
 
 -- ---- the sentence of a line that was scanned
 pub record Found (x : Result) (r : Record) : Type 0 where

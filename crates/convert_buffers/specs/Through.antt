@@ -1,13 +1,14 @@
 -- A line laid into lent buffers that are long enough, and written from there.
 use Prim.Native.Nat.{ℕ, _+_, _≤_}
 use mathlib.Core.Path.{_≡_}
-use mathlib.Core.List.{List, [], _∷_}
+use mathlib.Core.List.{[], _∷_}
 use lib.Dec.{ltb}
 use lib.ListN.{length}
 use Rattle.sentence.specs.Sentence.{Sentence}
 use Rattle.sentence.specs.Reading.{Form, Result}
 use Rattle.sentence.specs.Writing.{written}
 use Rattle.sentence.specs.Refusals.{check, verdict}
+use Rattle.sheet.specs.Eight.{Eight, eight, Each}
 use Rattle.sheet.specs.Layout.{Buffers}
 use Rattle.sheet.specs.declared.Record.{Record}
 use Rattle.sheet.specs.declared.Answer.the-variants as answer
@@ -19,16 +20,13 @@ pub record Scanned (x : Result) (r : Record) : Type 0 where
   pub record-is : answer.Sentence r ≡ scanned x
   pub few : r .cells ≤ 2048
 
--- each buffer has the room of every sentence of m cells at most that is read from a line of n bytes
+-- the most that a sentence of m cells takes that is read from a line of n bytes
+abbrev pub most : ℕ → ℕ → Eight ℕ
+most n m = eight n n n (n + 1) (n + 1) m m n
+
+-- each buffer has that room
 pub record Wide (n m : ℕ) (d : Buffers) : Type 0 where
-  pub text-wide : n ≤ length (d .text-buf)
-  pub types-wide : n ≤ length (d .types-buf)
-  pub boundaries-wide : n ≤ length (d .boundaries-buf)
-  pub char-pos-wide : n + 1 ≤ length (d .char-pos-buf)
-  pub byte-pos-wide : n + 1 ≤ length (d .byte-pos-buf)
-  pub cell-starts-wide : m ≤ length (d .cell-starts-buf)
-  pub cell-lengths-wide : m ≤ length (d .cell-lengths-buf)
-  pub tag-bytes-wide : n ≤ length (d .tag-bytes-buf)
+  pub wide : Each (λ k l. k ≤ length l) (most n m) d
 
 -- a sentence written into so much room: the line, or 12 at its length
 unfoldable pub writing : Form → ℕ → Sentence → Outcome

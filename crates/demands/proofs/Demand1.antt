@@ -41,7 +41,7 @@ use Rattle.changes.specs.Changes.{Lays, defaultAnswer, DefaultSet, boundaryAnsw
 use Rattle.scores.specs.Scores.{scoreAnswer, Predicted}
 use Rattle.read_load.specs.Load.{lacks, readAnswer, readLeaves, ReadDoes}
 use Rattle.read.specs.Read.{updateAnswer, updateLeaves, UpdateDoes}
-use Rattle.read_load.proofs.Ways.{same-is}
+use Rattle.sheet.proofs.Eights.{same-is}
 use Rattle.tokens.specs.declared.Next.{Next}
 use Rattle.tokens.specs.declared.Next.the-variants as step-answer
 use Rattle.tokens.specs.declared.Token.{Token}

@@ -38,7 +38,7 @@ use Rattle.changes.specs.Changes.{DefaultSet, defaultAnswer}
 use Rattle.changes.proofs.After.{default-holds}
 use Rattle.read_load.specs.Load.{lacks, readAnswer, readLeaves, ReadDoes}
 use Rattle.read.specs.Read.{updateAnswer, updateLeaves, UpdateDoes}
-use Rattle.read_load.proofs.Ways.{same-is}
+use Rattle.sheet.proofs.Eights.{same-self, same-is}
 use Rattle.tokens.specs.declared.Token.{Token}
 use Rattle.tokens.specs.declared.Next.{Next}
 use Rattle.tokens.specs.declared.Next.the-variants as next
@@ -74,17 +74,7 @@ blank-laid : (d : Buffers) → roomFor (recordOf blank) d ≡ true → Holds (re
 blank-laid d h = default-holds d (answer.Sentence (recordOf blank)) (laid blank d) (recordOf blank) (set h) refl
   where
     set : roomFor (recordOf blank) d ≡ true → DefaultSet d (answer.Sentence (recordOf blank)) (laid blank d)
-    set k = record {
-      answer-is = serves d k;
-      text-is = refl;
-      types-is = refl;
-      boundaries-is = refl;
-      char-pos-is = refl;
-      byte-pos-is = refl;
-      cell-starts-is = refl;
-      cell-lengths-is = refl;
-      tag-bytes-is = refl;
-    }
+    set k = record { answer-is = serves d k; leaves = same-self (laid blank d) }
 
 blanks : (x : Result) (d e : Buffers) (y : Refusal) → roomFor (recordOf blank) d ≡ true → UpdateDoes x d (answer.Refused y) e → Lies blank d e × Holds (recordOf blank) e blank
 unfolding updateAnswer updateLeaves updateOrder readerOrder verdict lacks if_then_else_

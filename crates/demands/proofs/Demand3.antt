@@ -22,17 +22,17 @@ use Rattle.sentence.proofs.Demand3 as definitions
 use Rattle.sheet.specs.declared.Record.{Record}
 use Rattle.sheet.specs.declared.Answer.{Answer}
 use Rattle.sheet.specs.declared.Answer.the-variants as answer
-use Rattle.sheet.specs.Layout.{Buffers, buffers, recordOf, roomFor, laid, Holds, spell, markOf}
+use Rattle.sheet.specs.Eight.{each}
+use Rattle.sheet.specs.Layout.{Buffers, Same, takes, recordOf, roomFor, laid, Holds, spell, markOf}
 use Rattle.sheet.specs.Check.{isSheet}
 use Rattle.sheet.proofs.Held.{laid-holds, spelled}
-use Rattle.sheet.proofs.Exact.{holds-is}
+use Rattle.sheet.proofs.Exact.{room-has, holds-is}
 use Rattle.changes.specs.Changes.{Lays, boundaryAnswer, lackCells, resetAnswer}
 use Rattle.scores.specs.Scores.{scoreAnswer}
 use Rattle.changes.proofs.After.{boundary-holds, reset-holds}
 use Rattle.scores.proofs.After.{predicted-holds}
-use Rattle.read_fill.specs.Fill.{Same}
 use Rattle.read_load.specs.Load.{lacks, readAnswer, readLeaves, ReadDoes}
-use Rattle.read_load.proofs.Ways.{same-self, same-is}
+use Rattle.sheet.proofs.Eights.{every, part-each, same-self, same-is}
 use Rattle.read_load.proofs.Laws.{holding}
 use Rattle.write.specs.Answers.{writeOrder}
 use Rattle.write.proofs.Laws.{took}
@@ -87,17 +87,7 @@ changes r q d e s t h (predicted zs w z) = let k = spelled r d s h in rw (z, ←
 
 -- a call that serves lays its sentence down
 lays : (a : Answer) (t : Sentence) (d : Buffers) → answer.Sentence (recordOf t) ≡ a → Lays a t d (answer.Sentence (recordOf t)) (laid t d)
-lays a t d e = record {
-  answer-is = e;
-  text-is = refl;
-  types-is = refl;
-  boundaries-is = refl;
-  char-pos-is = refl;
-  byte-pos-is = refl;
-  cell-starts-is = refl;
-  cell-lengths-is = refl;
-  tag-bytes-is = refl;
-}
+lays a t d e = record { answer-is = e; leaves = same-self (laid t d) }
 
 module _ (r : Record) (d : Buffers) (s : Sentence) (h : Holds r d s) where
   boundary-served : (i v : ℕ) → i < count s - 1 → v ≤ 2 → answer.Sentence (recordOf (setBoundary i (markOf v) (spell r d))) ≡ boundaryAnswer (isSheet r d) (spell r d) i v
@@ -206,15 +196,14 @@ converts reader writer x u out out′ place end s i e w =
 -- ---- there are such trips
 -- room for a sentence, of zeros
 unfoldable zeros : Record → Buffers
-zeros r =
-    buffers (replicate (r .b) 0) (replicate (r .n) 0) (replicate (r .n - 1) 0) (replicate (r .n + 1) 0) (replicate (r .b + 1) 0) (replicate (r .cells) 0) (replicate (r .cells) 0) (replicate (r .g) 0)
+zeros r = each (λ n. replicate n 0) (takes r)
 
 long : (n : ℕ) → length (replicate {A = ℕ} n 0) ≡ n
 long n = length-replicate n 0
 
 enough : (r : Record) → roomFor r (zeros r) ≡ true
-unfolding roomFor zeros
-enough r = rw (long (r .b), long (r .n), long (r .n - 1), long (r .n + 1), long (r .b + 1), long (r .cells), long (r .g)) (simp reads (omega arith))
+unfolding zeros
+enough r = room-has r (zeros r) (every (λ i. rw (part-each (λ (n : ℕ). replicate {A = ℕ} n 0) (takes r) i, long) (omega arith)))
 
 spelt : (g : Form) (r : Record) (d : Buffers) (s : Sentence) → Holds r d s → Spelt g r d (written g s)
 unfolding writeOrder verdict if_then_else_

@@ -4,7 +4,7 @@ use mathlib.Core.Path.{_≡_, sym, _∙_}
 use mathlib.Core.List.{List}
 use Rattle.sheet.specs.Layout.{Buffers}
 use Rattle.sheet.specs.declared.Record.{Record}
-use Rattle.read_load.proofs.Ways.{same-is}
+use Rattle.sheet.proofs.Eights.{same-is}
 use Rattle.exports.specs.Exports.{HostReads, HostWrites, HostWithholds, HostKeys, HostSteps}
 
 pub host-read-once : {f : ℕ} {x : List ℕ} {d : Buffers} {ns : List ℕ} {a a′ : ℕ} {e e′ : Buffers} {m m′ : List ℕ}

@@ -22,7 +22,7 @@ use Rattle.sheet.specs.declared.Answer.the-variants as answer
 use Rattle.sheet.specs.declared.Number.{Number}
 use Rattle.sheet.specs.declared.Number.the-variants as number
 use Rattle.read_load.specs.Load.{readAnswer, ReadDoes}
-use Rattle.read_load.proofs.Ways.{same-self}
+use Rattle.sheet.proofs.Eights.{same-self}
 use Rattle.write.specs.Answers.{Written, copyOf, noRange, withholdOrder, Withholds, Keyed}
 use Rattle.tokens.specs.Steps.{nextOf}
 use Rattle.tokens.specs.declared.Token.{Token as Span}

@@ -11,14 +11,13 @@ use Rattle.sentence.specs.Sentence.{count}
 use Rattle.sentence.specs.Reading.{read}
 use Rattle.sentence.specs.Refusals.{refusal, Check, check, verdict, sheetOrder}
 use Rattle.sentence.specs.declared.Refusal.{Refusal}
-use Rattle.sheet.specs.Layout.{Buffers, spell}
+use Rattle.sheet.specs.Layout.{Buffers, Same, spell}
 use Rattle.sheet.specs.Check.{isSheet}
 use Rattle.sheet.specs.declared.Record.{Record}
 use Rattle.sheet.specs.declared.Answer.{Answer}
 use Rattle.sheet.specs.declared.Answer.the-variants as answer
 use Rattle.sheet.specs.declared.Number.{Number}
 use Rattle.sheet.specs.declared.Number.the-variants as number
-use Rattle.read_fill.specs.Fill.{Same}
 use Rattle.read_load.specs.Load.{readAnswer, readLeaves}
 use Rattle.write.specs.Answers.{lineOf, writeOrder, copyOf, noRange, keyOf, keyOrder}
 use Rattle.tokens.specs.Steps.{nextOf}

@@ -9,6 +9,7 @@ use Rattle.sentence.specs.Reading.{Form, Result, read}
 use Rattle.sentence.specs.Writing.{blank}
 use Rattle.sentence.specs.Refusals.{refusal, verdict, readerOrder, updateOrder}
 use Rattle.sentence.specs.declared.Refusal.{Refusal}
+use Rattle.sheet.proofs.Eights.{same-self, same-is}
 use Rattle.sheet.specs.Layout.{Buffers, recordOf, laid, Holds}
 use Rattle.sheet.specs.declared.Answer.{Answer}
 use Rattle.sheet.specs.declared.Answer.the-variants as answer
@@ -16,7 +17,7 @@ use Rattle.sheet.specs.declared.Record.{Record}
 use Rattle.changes.specs.Changes.{defaultAnswer}
 use Rattle.changes.proofs.After.{default-holds}
 use Rattle.read_load.specs.Load.{lacks, readAnswer}
-use Rattle.read_load.proofs.Ways.{same-is, order-sentence, order-refused}
+use Rattle.read_load.proofs.Ways.{order-sentence, order-refused}
 use Rattle.read_load.proofs.Laws.{Holding, holding}
 use Rattle.read.specs.Read.{updateAnswer, updateLeaves, UpdateDoes}
 
@@ -40,17 +41,7 @@ module _ (f : Form) (x : List ℕ) (d e : Buffers) (a : Answer) (h : lacks d bla
   update-blank q i =
       let z : e ≡ laid blank d = leaves ∙ order-refused (read f x) d q (laid blank d) (sym answers ∙ i) in
       default-holds d (answer.Sentence (recordOf blank)) e (recordOf blank)
-      (record {
-        answer-is = rw h;
-        text-is = rw z;
-        types-is = rw z;
-        boundaries-is = rw z;
-        char-pos-is = rw z;
-        byte-pos-is = rw z;
-        cell-starts-is = rw z;
-        cell-lengths-is = rw z;
-        tag-bytes-is = rw z;
-      })
+      (record { answer-is = rw h; leaves = rw z (same-self (laid blank d)) })
       refl
 
 -- 15 leaves the buffers as they were

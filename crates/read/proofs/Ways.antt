@@ -8,14 +8,14 @@ use Rattle.sentence.specs.Reading.{Result}
 use Rattle.sentence.specs.Writing.{blank}
 use Rattle.sentence.specs.Refusals.{refusal, verdict, readerOrder, updateOrder}
 use Rattle.sentence.specs.declared.Refusal.{Refusal}
-use Rattle.sheet.specs.Layout.{Buffers, recordOf, laid}
+use Rattle.sheet.proofs.Eights.{same-self, same-is}
+use Rattle.sheet.specs.Layout.{Buffers, Same, recordOf, laid}
 use Rattle.sheet.specs.declared.Answer.{Answer}
 use Rattle.sheet.specs.declared.Answer.the-variants as answer
 use Rattle.sheet.specs.declared.Record.{Record}
 use Rattle.changes.specs.Changes.{defaultAnswer, DefaultSet}
-use Rattle.read_fill.specs.Fill.{Same}
 use Rattle.read_load.specs.Load.{lacks, readAnswer, readLeaves, ReadDoes}
-use Rattle.read_load.proofs.Ways.{same-self, same-is, roomOf, lacking, order-sentence, order-refused}
+use Rattle.read_load.proofs.Ways.{roomOf, lacking, order-sentence, order-refused}
 use Rattle.read.specs.Read.{updateAnswer, updateLeaves, UpdateDoes}
 
 -- ---- an update
@@ -53,16 +53,7 @@ default-same : (d e : Buffers) (ok : Bool) (b : Answer) → ok ≡ roomOf (recor
 unfolding defaultAnswer verdict lacks if_then_else_
 default-same d e ok b h t w =
     let i : b ≡ answer.Sentence (recordOf blank) = w .answer-is ∙ rw (lacking blank d ok _ blank-record h false t) in
-    record {
-      text-is = rw i at (w .text-is);
-      types-is = rw i at (w .types-is);
-      boundaries-is = rw i at (w .boundaries-is);
-      char-pos-is = rw i at (w .char-pos-is);
-      byte-pos-is = rw i at (w .byte-pos-is);
-      cell-starts-is = rw i at (w .cell-starts-is);
-      cell-lengths-is = rw i at (w .cell-lengths-is);
-      tag-bytes-is = rw i at (w .tag-bytes-is);
-    }
+    rw i at (w .leaves)
 
 pub update-refused : (x : Result) (d e f : Buffers) (ok : Bool) (a b : Answer) (q : Refusal) → ok ≡ roomOf (record { n = 1; b = 1; columns = 0; cells = 0; g = 0 }) d → not ok ≡ false
     → ReadDoes x d a e → a ≡ answer.Refused q → DefaultSet e b f → UpdateDoes x d (answer.Refused q) f

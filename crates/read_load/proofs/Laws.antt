@@ -11,6 +11,7 @@ use Rattle.sentence.specs.Reading.{Form, Result, sentence, refused, read}
 use Rattle.sentence.specs.Refusals.{refusal, verdict, readerOrder}
 use Rattle.sentence.specs.declared.Refusal.{Refusal}
 use Rattle.sentence.proofs.Shape.{read-formed}
+use Rattle.sheet.proofs.Eights.{same-is}
 use Rattle.sheet.specs.Layout.{Buffers, recordOf, laid, Holds}
 use Rattle.sheet.specs.Check.{isSheet}
 use Rattle.sheet.proofs.Held.{laid-holds}
@@ -19,7 +20,7 @@ use Rattle.sheet.specs.declared.Answer.{Answer}
 use Rattle.sheet.specs.declared.Answer.the-variants as answer
 use Rattle.sheet.specs.declared.Record.{Record}
 use Rattle.read_load.specs.Load.{lacks, Does, readAnswer, readLeaves, ReadDoes}
-use Rattle.read_load.proofs.Ways.{same-is, order-refused}
+use Rattle.read_load.proofs.Ways.{order-refused}
 
 -- two outcomes of one call coincide
 pub read-once : {a : Answer} {b : Buffers} {r r′ : Answer} {e e′ : Buffers} → Does a b r e → Does a b r′ e′ → (r ≡ r′) × (e ≡ e′)

@@ -12,38 +12,25 @@ use Rattle.sentence.specs.Reading.{Form, Result, sentence, refused, read}
 use Rattle.sentence.specs.Refusals.{refusal, verdict, readerOrder}
 use Rattle.sentence.specs.declared.Refusal.{Refusal}
 use Rattle.sentence.proofs.Shape.{read-formed}
-use Rattle.sheet.specs.Layout.{Buffers, buffers, recordOf, roomFor, laid}
+use Rattle.sheet.specs.Eight.{each}
+use Rattle.sheet.specs.Layout.{Buffers, Same, recordOf, takes, enough, roomFor, laid}
+use Rattle.sheet.proofs.Eights.{same-self}
 use Rattle.sheet.proofs.Held.{length-marks}
 use Rattle.sheet.proofs.Held.{some-bytes}
 use Rattle.sheet.specs.declared.Answer.{Answer}
 use Rattle.sheet.specs.declared.Answer.the-variants as answer
 use Rattle.sheet.specs.declared.Record.{Record}
 use Rattle.read_scan.specs.Scan.{scanned}
-use Rattle.read_fill.specs.Fill.{Fits, filled, Same}
-use Rattle.read_load.specs.Load.{roomIn, lacks, readAnswer, readLeaves, ReadDoes}
-
--- ---- buffers that are the same
-pub same-self : (d : Buffers) → Same d d
-same-self d = record { text-is = refl; types-is = refl; boundaries-is = refl; char-pos-is = refl; byte-pos-is = refl; cell-starts-is = refl; cell-lengths-is = refl; tag-bytes-is = refl }
-
-pub same-is : {b e : Buffers} → Same b e → e ≡ b
-same-is {b} {e} s = let z : whole e ≡ whole b = cc in z
-  where
-    whole : Buffers → Buffers
-    whole x = buffers (x .text-buf) (x .types-buf) (x .boundaries-buf) (x .char-pos-buf) (x .byte-pos-buf) (x .cell-starts-buf) (x .cell-lengths-buf) (x .tag-bytes-buf)
+use Rattle.read_fill.specs.Fill.{Fits, filled}
+use Rattle.read_load.specs.Load.{lacks, readAnswer, readLeaves, ReadDoes}
 
 -- the room that the code tests
 abbrev pub roomOf : Record → Buffers → Bool
-roomOf r d =
-    roomIn r (length (d .text-buf)) (length (d .types-buf)) (length (d .boundaries-buf)) (length (d .char-pos-buf)) (length (d .byte-pos-buf)) (length (d .cell-starts-buf)) (length (d .cell-lengths-buf)) (length (d .tag-bytes-buf))
-
-room-is : (r : Record) (d : Buffers) → roomFor r d ≡ roomOf r d
-unfolding roomFor roomIn
-room-is r d = refl
+roomOf r d = enough (takes r) (each length d)
 
 pub lacking : (s : Sentence) (d : Buffers) (ok : Bool) (r : Record) → r ≡ recordOf s → ok ≡ roomOf r d → (t : Bool) → not ok ≡ t → lacks d s ≡ t
-unfolding lacks
-lacking s d ok r i e t h = ap not (room-is (recordOf s) d ∙ ap (λ (q : Record). roomOf q d) (sym i) ∙ sym e) ∙ h
+unfolding lacks roomFor
+lacking s d ok r i e t h = ap not (ap (λ (q : Record). roomOf q d) (sym i) ∙ sym e) ∙ h
 
 -- ---- what a scan has found
 record Found (x : Result) (r : Record) : Type 0 where

@@ -1,21 +1,12 @@
 -- What a reader answers, and what it leaves in the buffers.
-use Prim.Native.Nat.{ℕ, _+_, _-_}
 use mathlib.Core.Path.{_≡_}
-use mathlib.Core.Bool.{Bool, not, _&&_}
-use lib.Dec.{leb}
+use mathlib.Core.Bool.{Bool, not}
 use Rattle.sentence.specs.Sentence.{Sentence}
 use Rattle.sentence.specs.Reading.{Result}
 use Rattle.sentence.specs.Refusals.{readerOrder}
-use Rattle.sheet.specs.Layout.{Buffers, recordOf, roomFor, laid}
+use Rattle.sheet.specs.Layout.{Buffers, Same, recordOf, roomFor, laid}
 use Rattle.sheet.specs.declared.Answer.{Answer}
 use Rattle.sheet.specs.declared.Answer.the-variants as answer
-use Rattle.sheet.specs.declared.Record.{Record}
-use Rattle.read_fill.specs.Fill.{Same}
-
--- the room that a record needs, of buffers of these lengths
-unfoldable pub roomIn : Record → ℕ → ℕ → ℕ → ℕ → ℕ → ℕ → ℕ → ℕ → Bool
-roomIn r t y m c b w e g =
-    leb (r .b) t && leb (r .n) y && leb (r .n - 1) m && leb (r .n + 1) c && leb (r .b + 1) b && leb (r .cells) w && leb (r .cells) e && leb (r .g) g
 
 -- the buffers lack room for a sentence
 unfoldable pub lacks : Buffers → Sentence → Bool

@@ -14,12 +14,14 @@ use mir.ValLaws.{toZ-ofZ}
 use Rattle.sheet.proofs.Look.{left, bounds}
 use Rattle.sheet.specs.declared.Record.{Record}
 use Rattle.sheet.specs.declared.Answer.the-variants as answer
+use Rattle.sheet.specs.Eight.{the-text, the-types, the-char-pos, the-byte-pos}
+use Rattle.sheet.proofs.Eights.{in-order}
 use Rattle.sheet.specs.Layout.{Buffers, buffers, recordOf, lay, laid, Holds}
 use Rattle.sentence.specs.Sentence.{code, Sentence, text, marks, rows}
 use Rattle.sentence.specs.Writing.{marked, resetTags, decision, scored}
 use Rattle.changes.specs.Changes.{Laid}
 use Rattle.changes.proofs.Changed.{text-bare, marks-bare, rows-bare, no-tag-bytes, text-marked, marks-marked}
-use Rattle.changes.proofs.Kept.{text-kept, types-kept, char-pos-kept, byte-pos-kept, cell-starts-reset, cell-lengths-reset, tag-bytes-reset}
+use Rattle.changes.proofs.Kept.{stays, cell-starts-reset, cell-lengths-reset, tag-bytes-reset}
 
 -- a score above zero, and one that is not
 pub above : (z : ℤ) → SFits w32 z → ltZ (toZ w32 0) (toZ w32 (ofZ w32 z)) ≡ true → 1 ≡ code (decision z)
@@ -68,14 +70,10 @@ module _ {r : Record} {d : Buffers} {s : Sentence} (h : Holds r d s) where
       let b = bounds h .b-is in
       let y : rows t ≡ replicate (r .n) [] = rows-bare c ∙ rw (text-marked (map decision zs) (s .cells), n) in
       let m : marks t ≡ map decision zs = marks-bare c ∙ marks-marked (map decision zs) (s .cells) (length-map zs decision ∙ l ∙ sym (bounds h .marks-long)) in
+      let z : r .n * 0 ≡ 0 = omega arith in
       record {
-        answer-is = let z : r .n * 0 ≡ 0 = omega arith in rw (x, y, no-tag-bytes, ← n, ← b, z);
-        text-is = sym (text-kept h t x);
-        types-is = sym (types-kept h t x);
-        boundaries-is = e ∙ rw (m, length-map (map decision zs) code, length-map zs decision);
-        char-pos-is = sym (char-pos-kept h t x);
-        byte-pos-is = sym (byte-pos-kept h t x);
-        cell-starts-is = let z : r .n * 0 ≡ 0 = omega arith in sym (cell-starts-reset h t y ∙ rw z);
-        cell-lengths-is = let z : r .n * 0 ≡ 0 = omega arith in sym (cell-lengths-reset h t y ∙ rw z);
-        tag-bytes-is = sym (tag-bytes-reset h t y);
+        answer-is = rw (x, y, no-tag-bytes, ← n, ← b, z);
+        leaves =
+            in-order (stays h t the-text (rw x)) (stays h t the-types (rw x)) (e ∙ rw (m, length-map (map decision zs) code, length-map zs decision))
+            (stays h t the-char-pos (rw x)) (stays h t the-byte-pos (rw x)) (sym (cell-starts-reset h t y ∙ rw z)) (sym (cell-lengths-reset h t y ∙ rw z)) (sym (tag-bytes-reset h t y));
       }

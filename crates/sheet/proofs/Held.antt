@@ -16,7 +16,7 @@ use Rattle.sentence.proofs.Trips.{all-absent, cut-pad, pad-length}
 pub use Rattle.sheet_check.proofs.Says.{length-starts, length-numbers}
 use Rattle.sheet.specs.declared.Record.{Record}
 use Rattle.sheet.specs.Eight.{Which, part, Every}
-use Rattle.sheet.specs.Layout.{Buffers, recordOf, tagsOf, cellsOf, cellStarts, bytesOf, lay, laid, needs, roomFor, Front, Holds, slices, rowsBy, markOf, link, spell}
+use Rattle.sheet.specs.Layout.{Buffers, recordOf, tagsOf, cellsOf, cellStarts, bytesOf, lay, laid, takes, roomFor, Front, Holds, slices, rowsBy, markOf, link, spell}
 use Rattle.sheet.proofs.Eights.{every, one, part-pairwise}
 
 pub laid-holds : (s : Sentence) (d : Buffers) → Formed s → roomFor (recordOf s) d ≡ true → Holds (recordOf s) (laid s d) s
@@ -136,7 +136,7 @@ pub cells-bytes : (n : ℕ) (rs : List (List Tag)) → rowBytes (cellsOf n rs) �
 cells-bytes n rs = omega (arith, length-bytesOf (cellsOf n rs), ap length (bytes-same n rs), length-bytesOf (tagsOf rs), bytes-tagsOf rs)
 
 -- ---- each part is as long as the record counts
-pub parts-long : (s : Sentence) → Formed s → Every (λ (i : Which). length (part (lay s) i) ≡ part (needs (recordOf s)) i)
+pub parts-long : (s : Sentence) → Formed s → Every (λ (i : Which). length (part (lay s) i) ≡ part (takes (recordOf s)) i)
 unfolding lay recordOf
 parts-long s f =
     let n = length-marks (s .cells) in
@@ -183,7 +183,7 @@ module _ {r : Record} {d : Buffers} {s : Sentence} (h : Holds r d s) where
   g-held = rw (h .record-is)
 
   -- each buffer starts with its part
-  pub parts-held : Every (λ (i : Which). Prefix (part (needs r) i) (part (lay s) i) (part d i))
+  pub parts-held : Every (λ (i : Which). Prefix (part (takes r) i) (part (lay s) i) (part d i))
   parts-held = every (λ i. prefix _ _ _ (rw (h .record-is) (one (parts-long s (h .formed)) i)) (one (h .lies) i))
 
   pub text-held : Prefix (r .b) (encodes (text s)) (d .text-buf)

@@ -96,17 +96,17 @@ lay s = record {
 unfoldable pub laid : Sentence → Buffers → Buffers
 laid s d = pairwise over (lay s) d
 
--- the room needed: text B, types N, boundaries N-1, char positions N+1, byte positions B+1, starts and lengths a cell each, tag bytes G
-abbrev pub needs : Record → Eight ℕ
-needs r = eight (r .b) (r .n) (r .n - 1) (r .n + 1) (r .b + 1) (r .cells) (r .cells) (r .g)
+-- how much of each buffer a record takes: text B, types N, boundaries N-1, char positions N+1, byte positions B+1, starts and lengths a cell each, tag bytes G
+abbrev pub takes : Record → Eight ℕ
+takes r = eight (r .b) (r .n) (r .n - 1) (r .n + 1) (r .b + 1) (r .cells) (r .cells) (r .g)
 
 -- there is so much of each
 unfoldable pub enough : Eight ℕ → Eight ℕ → Bool
 enough n l = all (λ i. leb (part n i) (part l i))
 
--- the buffers have the room that a record needs
+-- the buffers have the room that a record takes
 unfoldable pub roomFor : Record → Buffers → Bool
-roomFor r d = enough (needs r) (each length d)
+roomFor r d = enough (takes r) (each length d)
 
 -- a buffer starts with a list
 abbrev pub Front : List ℕ → List ℕ → Type 0

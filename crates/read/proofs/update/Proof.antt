@@ -1,4 +1,5 @@
 use Rattle.read.proofs.Ways.{update-lacks, update-done, update-refused}
+use mathlib.Core.Path.{_∙_}
 use borrow.Author.Needs.{needs}
 use Rattle.read.proofs.update.Statement.{statement}
 use Rattle.read.proofs.update.Tie as tie
@@ -49,7 +50,7 @@ returns-2 : tie.Need-returns-2
 returns-2 c = update-done _ _ _ _ _ _ (c .before .before .before .before .before .before .before .before .before .before .before .before .before .before .before .before .before .before .before .before .before .before .before .before .before .before .before .before .before .has-room .ensures) (c .before .before .before .before .before .before .before .before .before .before .before .before .before .before .before .before .before .before .before .before .before .before .before .before .before .before .before .before .if1 .left) (c .before .before .before .before .before .before .before .before .before .before .before .before .before .before .before .before .before .before .before .load .ensures) (c .before .r .given .1)
 
 same-length-9 : tie.Need-same-length-9
-same-length-9 c = search needs
+same-length-9 c = c .before .before .before .before .before .before .before .before .before .before .before .before .before .before .before .before .set-default .kept .0 ∙ c .before .before .before .before .before .before .before .before .before .before .before .before .before .before .before .before .before .before .before .before .before .before .before .before .before .before .before .before .before .before .before .before .before .before .before .before .before .before .before .before .before .before .before .before .load .kept .1 .1 .0
 
 same-length-10 : tie.Need-same-length-10
 same-length-10 c = search needs

@@ -1,4 +1,5 @@
-use Rattle.read_load.specs.Load.{roomIn}
+use Rattle.sheet.specs.Eight.{all}
+use Rattle.sheet.specs.Layout.{enough}
 use borrow.Author.Needs.{needs}
 use Rattle.read_load.proofs.unchecked.has_room.Statement.{statement}
 use Rattle.read_load.proofs.unchecked.has_room.Tie as tie
@@ -13,7 +14,7 @@ add-result-2 : tie.Need-add-result-2
 add-result-2 c = search needs
 
 returns : tie.Need-returns
-unfolding roomIn
+unfolding enough all
 returns c = search needs
 
 pub has-room-spec : {M : Type 1} → statement M
