@@ -10,10 +10,10 @@ use Rattle.utf8.specs.Utf8.{size}
 use Rattle.sentence.specs.Sentence.{code, Sentence, text, marks, rows, pad}
 use Rattle.sentence.specs.Writing.{setBoundary, resetTags}
 use Rattle.sheet.specs.declared.Record.{Record}
-use Rattle.sheet.specs.Eight.{Which, the-text, the-types, the-boundaries, the-char-pos, the-byte-pos, the-cell-starts, the-cell-lengths, the-tag-bytes, part}
+use Rattle.sheet.specs.Eight.{Which, the-text, the-types, the-boundaries, the-char-pos, the-byte-pos, the-cell-starts, the-cell-lengths, the-tag-bytes, pick}
 use Rattle.sheet.specs.Layout.{Buffers, buffers, recordOf, tagsOf, cellsOf, cellStarts, bytesOf, lay, laid, Holds, markOf}
-use Rattle.sheet.proofs.Eights.{in-order, one, part-pairwise}
-use Rattle.sheet.proofs.Held.{parts-held, Prefix, boundaries-held}
+use Rattle.sheet.proofs.Eights.{in-order, one, pick-pairwise}
+use Rattle.sheet.proofs.Held.{prefixes-held, Prefix, boundaries-held}
 use Rattle.sheet.proofs.Look.{bounds, prefix-whole, prefix-length}
 use Rattle.sheet.specs.declared.Answer.the-variants as answer
 use Rattle.changes.specs.Changes.{Laid}
@@ -82,10 +82,10 @@ zeros-long n = length-replicate n 0
 pub ruleset zeros = (zeros-step, zeros-none, zeros-all, zeros-long)
 
 module _ {r : Record} {d : Buffers} {s : Sentence} (h : Holds r d s) where
-  -- a buffer stays whose part is the same
-  pub stays : (t : Sentence) (i : Which) → part (lay t) i ≡ part (lay s) i → part d i ≡ part (laid t d) i
+  -- a buffer stays whose list is the same
+  pub stays : (t : Sentence) (i : Which) → pick (lay t) i ≡ pick (lay s) i → pick d i ≡ pick (laid t d) i
   unfolding laid
-  stays t i e = sym (rw (part-pairwise over (lay t) d i, e) (over-same (one (parts-held h) i)))
+  stays t i e = sym (rw (pick-pairwise over (lay t) d i, e) (over-same (one (prefixes-held h) i)))
 
   -- ---- a boundary that is set
   pub boundary-laid : (i v : ℕ) → i < r .n - 1 → v ≤ 2 → laid (setBoundary i (markOf v) s) d .boundaries-buf ≡ set (d .boundaries-buf) i v

@@ -32,7 +32,7 @@ use Rattle.scores.specs.Scores.{scoreAnswer}
 use Rattle.changes.proofs.After.{boundary-holds, reset-holds}
 use Rattle.scores.proofs.After.{predicted-holds}
 use Rattle.read_load.specs.Load.{lacks, readAnswer, readLeaves, ReadDoes}
-use Rattle.sheet.proofs.Eights.{every, part-each, same-self, same-is}
+use Rattle.sheet.proofs.Eights.{every, pick-each, same-self, same-is}
 use Rattle.read_load.proofs.Laws.{holding}
 use Rattle.write.specs.Answers.{writeOrder}
 use Rattle.write.proofs.Laws.{took}
@@ -203,7 +203,7 @@ long n = length-replicate n 0
 
 enough : (r : Record) → roomFor r (zeros r) ≡ true
 unfolding zeros
-enough r = room-has r (zeros r) (every (λ i. rw (part-each (λ (n : ℕ). replicate {A = ℕ} n 0) (takes r) i, long) (omega arith)))
+enough r = room-has r (zeros r) (every (λ i. rw (pick-each (λ (n : ℕ). replicate {A = ℕ} n 0) (takes r) i, long) (omega arith)))
 
 spelt : (g : Form) (r : Record) (d : Buffers) (s : Sentence) → Holds r d s → Spelt g r d (written g s)
 unfolding writeOrder verdict if_then_else_

@@ -1,4 +1,4 @@
--- Eight parts that are being stored: what a line's acts store from the start is the sentence that it reads to. Assumes nothing.
+-- Eight buffers that are being stored to: what a line's acts store from the start is the sentence that it reads to. Assumes nothing.
 use Prim.Native.Nat.{ℕ, zero, suc, _+_, _-_, _≤_}
 use mathlib.Core.Path.{_≡_, refl, sym, ap, _∙_}
 use mathlib.Core.Bool.{Bool, true, false}
@@ -12,11 +12,11 @@ use Rattle.utf8.proofs.Codec.{length-encode, width-small}
 use Rattle.sentence.specs.Sentence.{Tag, Mark, Sentence, code, rows, rowBytes, Formed}
 use Rattle.sentence.specs.Reading as reading
 use Rattle.sentence.specs.Reading.{Form, at, start, Act, skip, letter, opens, ofTag, whole, run, next, Parsed, parsed, gather, built, sentence}
-use Rattle.sheet.specs.Eight.{Which, part, Every, Each}
+use Rattle.sheet.specs.Eight.{Which, pick, Every, Each}
 use Rattle.sheet.specs.Layout.{Buffers, buffers, Same, recordOf, roomFor, cellsOf, bytesOf, lay, laid}
-use Rattle.sheet.proofs.Eights.{in-order, every, one, part-pairwise}
+use Rattle.sheet.proofs.Eights.{in-order, every, one, pick-pairwise}
 use Rattle.sheet.proofs.Exact.{has-room}
-use Rattle.sheet.proofs.Held.{parts-long}
+use Rattle.sheet.proofs.Held.{fronts-long}
 use Rattle.read_counts.specs.declared.Counts.{Counts}
 use Rattle.read_counts.specs.Counts.{Small, opened, nothing, bytes, letters, opening, grows, tallyBy, tally}
 use Rattle.read_counts.proofs.Rests.{lettersIn, rowsIn, Fresh, run-fresh}
@@ -41,9 +41,9 @@ unfolding built
 begun (parsed t ts n reading.over) s f e = absurd f
 begun (parsed t ts n (next m cs)) s f e = record { t = t; n = n; m = m; is = let z : cs ≡ s .cells = cc in rw (f, z); wide = cc }
 
--- what is stored in each part, from the start
+-- what is stored in each buffer, from the start
 pub record Emitted (l : List Act) (s : Sentence) : Type 0 where
-  pub parts : Every (λ i. emits (part (stores (s .columns)) i) l nothing ≡ part (lay s) i)
+  pub every-store : Every (λ i. emits (pick (stores (s .columns)) i) l nothing ≡ pick (lay s) i)
   pub wide : widest nothing (gather l) ≤ s .columns
 
 -- the cells of a line that begins so
@@ -62,7 +62,7 @@ emitted f x l s r e =
     let b = begun (gather l) s (run-fresh f x l r) e in
     let w = begun-wide (gather l) s b in
     record {
-      parts =
+      every-store =
           in-order
           (text-emits l nothing ∙ rw (b .is))
           (types-emits l nothing ∙ rw (b .is))
@@ -75,7 +75,7 @@ emitted f x l s r e =
       wide = w;
     }
 
--- ---- a part's place moves by what an act stores there
+-- ---- a store's place moves by what an act stores there
 abbrev Moves : Act → Counts → Store → Type 0
 Moves a k p = p .index (tally a k) ≡ p .index k + length (p .emit a k)
 
@@ -170,17 +170,17 @@ tag-bytes-moves (letter m c) k = omega arith
 tag-bytes-moves opens k = omega arith
 tag-bytes-moves (ofTag c) k = grows-bytes (k .tag) c k
 
-parts-move : (c : ℕ) (a : Act) (k : Counts) → k .tags + opened (k .tag) ≤ c → Every (λ (i : Which). Moves a k (part (stores c) i))
-parts-move c a k h =
+stores-move : (c : ℕ) (a : Act) (k : Counts) → k .tags + opened (k .tag) ≤ c → Every (λ (i : Which). Moves a k (pick (stores c) i))
+stores-move c a k h =
     in-order (text-moves a k) (types-moves a k) (boundaries-moves a k) (char-pos-moves a k) (byte-pos-moves a k)
     (cell-starts-moves c a k h) (cell-lengths-moves c a k h) (tag-bytes-moves a k)
 
 -- each starts at the front of its buffer
-parts-start : (c : ℕ) → Every (λ (i : Which). part (stores c) i .index nothing ≡ 0)
+stores-start : (c : ℕ) → Every (λ (i : Which). pick (stores c) i .index nothing ≡ 0)
 unfolding nothing spot textStore typesStore boundariesStore charPosStore bytePosStore cellStartsStore cellLengthsStore tagBytesStore
-parts-start c = in-order refl refl refl refl refl refl refl refl
+stores-start c = in-order refl refl refl refl refl refl refl refl
 
--- ---- one part that is being stored: what the acts l leave to be stored from the counts k on fits
+-- ---- one buffer that is being stored to: what the acts l leave to be stored from the counts k on fits
 pub record Going (p : Store) (l : List Act) (k : Counts) (all d₀ d : List ℕ) : Type 0 where
   pub filling : Filling d₀ all d (p .index k) (emits p l k)
   pub room : p .index k + length (emits p l k) ≤ length d
@@ -210,21 +210,21 @@ going-done : (p : Store) (k : Counts) (all d₀ d e : List ℕ) → Going p [] k
 unfolding emits
 going-done p k all d₀ d e g s h = s ∙ sym (g .filling .same) ∙ put-front all d₀ h
 
--- ---- all eight parts
+-- ---- all eight buffers
 pub record Goings (l : List Act) (k : Counts) (s : Sentence) (d₀ d : Buffers) : Type 0 where
-  pub parts : Every (λ i. Going (part (stores (s .columns)) i) l k (part (lay s) i) (part d₀ i) (part d i))
+  pub every-store : Every (λ i. Going (pick (stores (s .columns)) i) l k (pick (lay s) i) (pick d₀ i) (pick d i))
   pub wide : widest k (gather l) ≤ s .columns
 
--- the room that a sentence needs is that of its parts
+-- the room that a sentence needs is that of its lists
 abbrev pub Roomy : Sentence → Buffers → Type 0
 Roomy s d = Each (λ x y. length x ≤ length y) (lay s) d
 
 pub roomy : (s : Sentence) (d : Buffers) → Formed s → roomFor (recordOf s) d ≡ true → Roomy s d
-roomy s d f h = every (λ i. omega (arith, one (parts-long s f) i, one (has-room (recordOf s) d h) i))
+roomy s d f h = every (λ i. omega (arith, one (fronts-long s f) i, one (has-room (recordOf s) d h) i))
 
 pub goings-start : (l : List Act) (s : Sentence) (d : Buffers) → Emitted l s → Roomy s d → Goings l nothing s d d
 goings-start l s d e r = record {
-  parts = every (λ i. going-start (part (stores (s .columns)) i) l _ _ (one (parts-start (s .columns)) i) (one (e .parts) i) (one r i));
+  every-store = every (λ i. going-start (pick (stores (s .columns)) i) l _ _ (one (stores-start (s .columns)) i) (one (e .every-store) i) (one r i));
   wide = e .wide;
 }
 
@@ -233,12 +233,12 @@ module _ (a : Act) (l : List Act) (k : Counts) (s : Sentence) (d₀ d : Buffers)
   goings-narrow = omega (arith, g .wide, widest-tags k (gather (a ∷ l)))
 
   pub goings-room : Room (s .columns) (λ (p : Store). p .emit a k) k d
-  goings-room = every (λ i. going-room (part (stores (s .columns)) i) a l k _ _ _ (one (g .parts) i))
+  goings-room = every (λ i. going-room (pick (stores (s .columns)) i) a l k _ _ _ (one (g .every-store) i))
 
   pub goings-turn : (e : Buffers) → Stored (s .columns) (λ (p : Store). p .emit a k) k d e → Goings l (tally a k) s d₀ e
   unfolding gather
   goings-turn e t = record {
-    parts = every (λ i. going-turn (part (stores (s .columns)) i) a l k (one (parts-move (s .columns) a k goings-narrow) i) _ _ _ _ (one (g .parts) i) (one (t .stored) i));
+    every-store = every (λ i. going-turn (pick (stores (s .columns)) i) a l k (one (stores-move (s .columns) a k goings-narrow) i) _ _ _ _ (one (g .every-store) i) (one (t .stored) i));
     wide = omega (arith, g .wide, widest-less a k (gather l));
   }
 
@@ -247,13 +247,13 @@ module _ (k : Counts) (s : Sentence) (d₀ d : Buffers) (g : Goings [] k s d₀ 
   pub goings-finish : Small k 4096 → s .columns ≤ 4096 → Finishing (s .columns) k (d .char-pos-buf) (d .byte-pos-buf) (d .cell-starts-buf) (d .cell-lengths-buf)
   unfolding emits charPosStore bytePosStore cellStartsStore cellLengthsStore
   goings-finish h w = record {
-    char-pos-room = omega (arith, g .parts .char-pos-is .room);
-    byte-pos-room = omega (arith, g .parts .byte-pos-is .room);
+    char-pos-room = omega (arith, g .every-store .char-pos-is .room);
+    byte-pos-room = omega (arith, g .every-store .byte-pos-is .room);
     row-room = record {
       small = h;
       narrow = record { few = w; fits = omega (arith, g .wide, widest-tags k (gather [])) };
-      starts-room = g .parts .cell-starts-is .room;
-      lengths-room = g .parts .cell-lengths-is .room;
+      starts-room = g .every-store .cell-starts-is .room;
+      lengths-room = g .every-store .cell-lengths-is .room;
     };
   }
 
@@ -265,6 +265,6 @@ module _ (k : Counts) (s : Sentence) (d₀ d : Buffers) (g : Goings [] k s d₀ 
       → Same (laid s d₀) (left c b w e)
   unfolding laid textStore typesStore boundariesStore charPosStore bytePosStore cellStartsStore cellLengthsStore tagBytesStore
   goings-done {c} {b} {w} {e} r f =
-      let ended : Every (λ (i : Which). StoredIn (λ (p : Store). p .last k) k (part (stores (s .columns)) i) (part d i) (part (left c b w e) i)) =
+      let ended : Every (λ (i : Which). StoredIn (λ (p : Store). p .last k) k (pick (stores (s .columns)) i) (pick d i) (pick (left c b w e) i)) =
       in-order refl refl refl (f .char-pos-is) (f .byte-pos-is) (f .cell-starts-is) (f .cell-lengths-is) refl in
-      every (λ i. rw (part-pairwise over (lay s) d₀ i) (going-done (part (stores (s .columns)) i) k _ _ _ _ (one (g .parts) i) (one ended i) (one r i)))
+      every (λ i. rw (pick-pairwise over (lay s) d₀ i) (going-done (pick (stores (s .columns)) i) k _ _ _ _ (one (g .every-store) i) (one ended i) (one r i)))

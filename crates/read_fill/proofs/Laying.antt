@@ -240,4 +240,4 @@ module _ {f : Form} {c : ℕ} {x : List ℕ} {σ : State} {k : Counts} {p : ℕ}
 
   -- no buffer changes its length
   pub lay-long : Each (λ x y. length y ≡ length x) d₀ d
-  lay-long = every (λ i. one (h .goings .parts) i .filling .long)
+  lay-long = every (λ i. one (h .goings .every-store) i .filling .long)

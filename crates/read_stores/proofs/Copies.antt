@@ -112,7 +112,7 @@ pub kept-fits : (t : Bool) (i m n at : ℕ) (x : List ℕ) → at + n ≤ length
 unfolding kept
 kept-fits t i m n at x h e l = omega (arith, rw e at l, length-take n (drop at x), length-drop at x)
 
--- ---- what the stores leave, as the parts say it
+-- ---- what the stores leave, as their definitions say it
 pub later-stored : (d : List ℕ) (i n v r : ℕ) → (n ≡ 0 → ⊥) → r ≡ v → set d i r ≡ put d i (later n v)
 later-stored d i n v r h e = rw (later-some n v h, e)
 

@@ -9,7 +9,7 @@ use Rattle.utf8.specs.Utf8.{width, encode}
 use Rattle.types.specs.TypeOf.{typeOf}
 use Rattle.sentence.specs.Sentence.{Mark, code}
 use Rattle.sentence.specs.Reading.{Act, skip, letter, opens, ofTag}
-use Rattle.sheet.specs.Eight.{Eight, part, eight, Every, Each}
+use Rattle.sheet.specs.Eight.{Eight, pick, eight, Every, Each}
 use Rattle.sheet.specs.Layout.{Buffers}
 use Rattle.read_counts.specs.declared.Counts.{Counts}
 use Rattle.read_counts.specs.Counts.{Small, opened}
@@ -67,7 +67,7 @@ tagByte (letter m c) k = []
 tagByte opens k = []
 tagByte (ofTag c) k = kept (k .tag) (encode c)
 
--- a buffer's part: where the next value goes, what an act stores there, and what the line's end stores there
+-- a buffer's store: where the next value goes, what an act stores there, and what the line's end stores there
 pub record Store : Type 0 where
   pub index : Counts → ℕ
   pub emit : Act → Counts → List ℕ
@@ -98,17 +98,17 @@ cellLengthsStore c = record { index = place c; emit = λ a k. cellsAt c (k .long
 unfoldable pub tagBytesStore : Store
 tagBytesStore = record { index = λ k. k .g; emit = tagByte; last = λ k. [] }
 
--- the parts of the eight buffers, where each character has c cells
+-- the stores of the eight buffers, where each character has c cells
 abbrev pub stores : ℕ → Eight Store
 stores c = eight textStore typesStore boundariesStore charPosStore bytePosStore (cellStartsStore c) (cellLengthsStore c) tagBytesStore
 
--- a buffer e is d with what w says stored in its part
+-- a buffer e is d with what w says stored by its store
 abbrev pub StoredIn : (Store → List ℕ) → Counts → Store → List ℕ → List ℕ → Type 0
 StoredIn w k p d e = e ≡ put d (p .index k) (w p)
 
--- every buffer of e is that of d with what w says stored in its part
+-- every buffer of e is that of d with what w says stored by its store
 pub record Stored (c : ℕ) (w : Store → List ℕ) (k : Counts) (d e : Buffers) : Type 0 where
-  pub stored : Every (λ i. StoredIn w k (part (stores c) i) (part d i) (part e i))
+  pub stored : Every (λ i. StoredIn w k (pick (stores c) i) (pick d i) (pick e i))
 
 -- there is room for it
 abbrev pub Room : ℕ → (Store → List ℕ) → Counts → Buffers → Type 0

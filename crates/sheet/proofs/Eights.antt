@@ -1,7 +1,7 @@
 -- What holds of each of the eight buffers holds of every one, and back. Assumes nothing.
 use mathlib.Core.Path.{_≡_, refl}
 use mathlib.Core.Bool.{Bool, true, and-eq-true-iff}
-use Rattle.sheet.specs.Eight.{Which, the-text, the-types, the-boundaries, the-char-pos, the-byte-pos, the-cell-starts, the-cell-lengths, the-tag-bytes, Eight, part, by, each, pairwise, all, Every}
+use Rattle.sheet.specs.Eight.{Which, the-text, the-types, the-boundaries, the-char-pos, the-byte-pos, the-cell-starts, the-cell-lengths, the-tag-bytes, Eight, pick, by, each, pairwise, all, Every}
 use Rattle.sheet.specs.Layout.{Buffers, Same}
 
 -- in the order of the buffers, and by a rule
@@ -31,21 +31,21 @@ one h the-cell-lengths = h .cell-lengths-is
 one h the-tag-bytes = h .tag-bytes-is
 
 -- what a rule gives for a buffer
-part-by : {A : Type 0} (f : Which → A) (i : Which) → part (by f) i ≡ f i
-part-by f the-text = refl
-part-by f the-types = refl
-part-by f the-boundaries = refl
-part-by f the-char-pos = refl
-part-by f the-byte-pos = refl
-part-by f the-cell-starts = refl
-part-by f the-cell-lengths = refl
-part-by f the-tag-bytes = refl
+pick-by : {A : Type 0} (f : Which → A) (i : Which) → pick (by f) i ≡ f i
+pick-by f the-text = refl
+pick-by f the-types = refl
+pick-by f the-boundaries = refl
+pick-by f the-char-pos = refl
+pick-by f the-byte-pos = refl
+pick-by f the-cell-starts = refl
+pick-by f the-cell-lengths = refl
+pick-by f the-tag-bytes = refl
 
-pub part-each : {A B : Type 0} (f : A → B) (a : Eight A) (i : Which) → part (each f a) i ≡ f (part a i)
-part-each f a = part-by (λ i. f (part a i))
+pub pick-each : {A B : Type 0} (f : A → B) (a : Eight A) (i : Which) → pick (each f a) i ≡ f (pick a i)
+pick-each f a = pick-by (λ i. f (pick a i))
 
-pub part-pairwise : {A B C : Type 0} (f : A → B → C) (a : Eight A) (b : Eight B) (i : Which) → part (pairwise f a b) i ≡ f (part a i) (part b i)
-part-pairwise f a b = part-by (λ i. f (part a i) (part b i))
+pub pick-pairwise : {A B C : Type 0} (f : A → B → C) (a : Eight A) (b : Eight B) (i : Which) → pick (pairwise f a b) i ≡ f (pick a i) (pick b i)
+pick-pairwise f a b = pick-by (λ i. f (pick a i) (pick b i))
 
 -- a test of every buffer
 pub all-true : (t : Which → Bool) → Every (λ (i : Which). t i ≡ true) → all t ≡ true

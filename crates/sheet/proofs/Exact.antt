@@ -19,11 +19,11 @@ use Rattle.sentence.proofs.Trips.{pad-whole}
 use Rattle.sheet_check.specs.Passes.{isText, areMarks, isCell, cellsTo, areCells}
 use Rattle.sheet_check.proofs.Says.{same-self, Plain, plain-is, is-plain, TextIs, text-is}
 use Rattle.sheet.specs.declared.Record.{Record}
-use Rattle.sheet.specs.Eight.{Which, the-text, the-types, the-boundaries, the-char-pos, the-byte-pos, the-cell-starts, the-cell-lengths, the-tag-bytes, Eight, part, each, Each}
+use Rattle.sheet.specs.Eight.{Which, the-text, the-types, the-boundaries, the-char-pos, the-byte-pos, the-cell-starts, the-cell-lengths, the-tag-bytes, Eight, pick, each, Each}
 use Rattle.sheet.specs.Layout.{Buffers, recordOf, tagsOf, cellsOf, cellStarts, bytesOf, lay, takes, enough, roomFor, Front, Holds, slices, rowsBy, markOf, link, spell, Sheet}
 use Rattle.sheet.specs.Check.{inLimits, isLaid, Room, isSheet}
-use Rattle.sheet.proofs.Eights.{every, one, part-each, all-true, true-all}
-use Rattle.sheet.proofs.Held.{parts-held, length-marks, length-cellStarts, length-bytesOf, bytes-tagsOf, bytes-same, some-bytes, n-held, b-held, columns-held, cells-held, g-held, text-held, types-held, boundaries-held, char-pos-held, byte-pos-held, cell-starts-held, cell-lengths-held, tag-bytes-held, text-chars-held, cells-chars-held}
+use Rattle.sheet.proofs.Eights.{every, one, pick-each, all-true, true-all}
+use Rattle.sheet.proofs.Held.{prefixes-held, length-marks, length-cellStarts, length-bytesOf, bytes-tagsOf, bytes-same, some-bytes, n-held, b-held, columns-held, cells-held, g-held, text-held, types-held, boundaries-held, char-pos-held, byte-pos-held, cell-starts-held, cell-lengths-held, tag-bytes-held, text-chars-held, cells-chars-held}
 
 -- ---- boundaries
 marks-are : (ms : List ℕ) → areMarks ms ≡ true → map code (map markOf ms) ≡ ms
@@ -160,19 +160,19 @@ limits-are r = simp reads (omega arith)
 -- so much of each, and the room of the buffers
 enough-is : (n l : Eight ℕ) → enough n l ≡ true → Each _≤_ n l
 unfolding enough
-enough-is n l h = every (λ i. leb-true (part n i) (part l i) (one (true-all _ h) i))
+enough-is n l h = every (λ i. leb-true (pick n i) (pick l i) (one (true-all _ h) i))
 
 is-enough : (n l : Eight ℕ) → Each _≤_ n l → enough n l ≡ true
 unfolding enough
-is-enough n l h = all-true _ (every (λ i. le-leb (part n i) (part l i) (one h i)))
+is-enough n l h = all-true _ (every (λ i. le-leb (pick n i) (pick l i) (one h i)))
 
 pub has-room : (r : Record) (d : Buffers) → roomFor r d ≡ true → Each (λ n l. n ≤ length l) (takes r) d
 unfolding roomFor
-has-room r d h = every (λ i. rw (part-each length d i) at (one (enough-is (takes r) (each length d) h) i))
+has-room r d h = every (λ i. rw (pick-each length d i) at (one (enough-is (takes r) (each length d) h) i))
 
 pub room-has : (r : Record) (d : Buffers) → Each (λ n l. n ≤ length l) (takes r) d → roomFor r d ≡ true
 unfolding roomFor
-room-has r d h = is-enough (takes r) (each length d) (every (λ i. rw (part-each length d i) (one h i)))
+room-has r d h = is-enough (takes r) (each length d) (every (λ i. rw (pick-each length d i) (one h i)))
 
 pub room-is : (r : Record) (d : Buffers) → inLimits r ≡ true → roomFor r d ≡ true → Room r d
 unfolding inLimits
@@ -194,7 +194,7 @@ module _ (r : Record) (d : Buffers) (s : Sentence) (h : Holds r d s) where
       )
 
   room-holds : roomFor r d ≡ true
-  room-holds = room-has r d (every (λ i. one (parts-held h) i .fits))
+  room-holds = room-has r d (every (λ i. one (prefixes-held h) i .fits))
 
   text-holds : isText (take (r .b) (d .text-buf)) (take (r .n) (d .types-buf)) (take (r .n + 1) (d .char-pos-buf)) (take (r .b + 1) (d .byte-pos-buf)) ≡ true
   unfolding isText
@@ -288,8 +288,8 @@ module _ (r : Record) (d : Buffers) (cs : List ℕ) (ms : List Mark) (ts : List 
           bytes-fit = omega (arith, g-is, h .limits);
         }
 
-    front : {f : List ℕ} (i : Which) → f ≡ take (part (takes r) i) (part d i) → Front f (part d i)
-    front i e = at-front _ _ (part (takes r) i) (one (h .room .room) i) e
+    front : {f : List ℕ} (i : Which) → f ≡ take (pick (takes r) i) (pick d i) → Front f (pick d i)
+    front i e = at-front _ _ (pick (takes r) i) (one (h .room .room) i) e
 
     made : Holds r d (record { cells = x; columns = r .columns })
     unfolding lay recordOf

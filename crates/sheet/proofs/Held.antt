@@ -15,13 +15,13 @@ use Rattle.sentence.specs.Sentence.{Tag, Mark, none, word, unknown, code, Cells
 use Rattle.sentence.proofs.Trips.{all-absent, cut-pad, pad-length}
 pub use Rattle.sheet_check.proofs.Says.{length-starts, length-numbers}
 use Rattle.sheet.specs.declared.Record.{Record}
-use Rattle.sheet.specs.Eight.{Which, part, Every}
+use Rattle.sheet.specs.Eight.{Which, pick, Every}
 use Rattle.sheet.specs.Layout.{Buffers, recordOf, tagsOf, cellsOf, cellStarts, bytesOf, lay, laid, takes, roomFor, Front, Holds, slices, rowsBy, markOf, link, spell}
-use Rattle.sheet.proofs.Eights.{every, one, part-pairwise}
+use Rattle.sheet.proofs.Eights.{every, one, pick-pairwise}
 
 pub laid-holds : (s : Sentence) (d : Buffers) → Formed s → roomFor (recordOf s) d ≡ true → Holds (recordOf s) (laid s d) s
 unfolding laid
-laid-holds s d f h = record { formed = f; record-is = refl; lies = every (λ i. rw (part-pairwise over (lay s) d i) (take-append-seam (part (lay s) i) _)) }
+laid-holds s d f h = record { formed = f; record-is = refl; lies = every (λ i. rw (pick-pairwise over (lay s) d i) (take-append-seam (pick (lay s) i) _)) }
 
 -- ---- how long the parts are
 pub length-marks : (s : Cells) → length (textOf s) ≡ length (marksOf s) + 1
@@ -135,10 +135,10 @@ bytes-same n (r ∷ rs) = rw (bytes-joined (pad n r) (cellsOf n rs), bytes-pad n
 pub cells-bytes : (n : ℕ) (rs : List (List Tag)) → rowBytes (cellsOf n rs) ≡ tagBytes rs
 cells-bytes n rs = omega (arith, length-bytesOf (cellsOf n rs), ap length (bytes-same n rs), length-bytesOf (tagsOf rs), bytes-tagsOf rs)
 
--- ---- each part is as long as the record counts
-pub parts-long : (s : Sentence) → Formed s → Every (λ (i : Which). length (part (lay s) i) ≡ part (takes (recordOf s)) i)
+-- ---- each list is as long as the record counts
+pub fronts-long : (s : Sentence) → Formed s → Every (λ (i : Which). length (pick (lay s) i) ≡ pick (takes (recordOf s)) i)
 unfolding lay recordOf
-parts-long s f =
+fronts-long s f =
     let n = length-marks (s .cells) in
     let c = length-cellsOf (s .columns) (rows s) (rows-are (s .columns) (s .cells) (f .cells-are)) ∙ ap (λ (i : ℕ). i * s .columns) (length-rows (s .cells)) in
     record {
@@ -182,41 +182,41 @@ module _ {r : Record} {d : Buffers} {s : Sentence} (h : Holds r d s) where
   unfolding recordOf
   g-held = rw (h .record-is)
 
-  -- each buffer starts with its part
-  pub parts-held : Every (λ (i : Which). Prefix (part (takes r) i) (part (lay s) i) (part d i))
-  parts-held = every (λ i. prefix _ _ _ (rw (h .record-is) (one (parts-long s (h .formed)) i)) (one (h .lies) i))
+  -- each buffer starts with its list
+  pub prefixes-held : Every (λ (i : Which). Prefix (pick (takes r) i) (pick (lay s) i) (pick d i))
+  prefixes-held = every (λ i. prefix _ _ _ (rw (h .record-is) (one (fronts-long s (h .formed)) i)) (one (h .lies) i))
 
   pub text-held : Prefix (r .b) (encodes (text s)) (d .text-buf)
   unfolding lay
-  text-held = parts-held .text-is
+  text-held = prefixes-held .text-is
 
   pub types-held : Prefix (r .n) (types (text s)) (d .types-buf)
   unfolding lay
-  types-held = parts-held .types-is
+  types-held = prefixes-held .types-is
 
   pub boundaries-held : Prefix (r .n - 1) (map code (marks s)) (d .boundaries-buf)
   unfolding lay
-  boundaries-held = parts-held .boundaries-is
+  boundaries-held = prefixes-held .boundaries-is
 
   pub char-pos-held : Prefix (r .n + 1) (charPositions (text s)) (d .char-pos-buf)
   unfolding lay
-  char-pos-held = parts-held .char-pos-is
+  char-pos-held = prefixes-held .char-pos-is
 
   pub byte-pos-held : Prefix (r .b + 1) (bytePositions (text s)) (d .byte-pos-buf)
   unfolding lay
-  byte-pos-held = parts-held .byte-pos-is
+  byte-pos-held = prefixes-held .byte-pos-is
 
   pub cell-starts-held : Prefix (r .cells) (cellStarts 0 (cellsOf (s .columns) (rows s))) (d .cell-starts-buf)
   unfolding lay
-  cell-starts-held = parts-held .cell-starts-is
+  cell-starts-held = prefixes-held .cell-starts-is
 
   pub cell-lengths-held : Prefix (r .cells) (map size (cellsOf (s .columns) (rows s))) (d .cell-lengths-buf)
   unfolding lay
-  cell-lengths-held = parts-held .cell-lengths-is
+  cell-lengths-held = prefixes-held .cell-lengths-is
 
   pub tag-bytes-held : Prefix (r .g) (bytesOf (tagsOf (rows s))) (d .tag-bytes-buf)
   unfolding lay
-  tag-bytes-held = parts-held .tag-bytes-is
+  tag-bytes-held = prefixes-held .tag-bytes-is
 
   pub text-chars-held : All Char (text s)
   text-chars-held = text-chars (s .columns) (s .cells) (h .formed .cells-are)

@@ -27,7 +27,7 @@ use Rattle.sheet.specs.Layout.{Buffers, takes, cellsOf, cellStarts, byte
 use Rattle.sheet.specs.Check.{isSheet}
 use Rattle.sheet.proofs.Exact.{is-sheet}
 use Rattle.sheet.proofs.Eights.{every, one}
-use Rattle.sheet.proofs.Held.{parts-held, Prefix, length-marks, length-rows, length-bytesOf, rowBytes-append, some-bytes, bytes-joined, bytes-same, cells-bytes, cells-long, n-held, b-held, columns-held, cells-held, g-held, text-held, boundaries-held, char-pos-held, byte-pos-held, cell-starts-held, cell-lengths-held, tag-bytes-held, text-chars-held, rows-held}
+use Rattle.sheet.proofs.Held.{prefixes-held, Prefix, length-marks, length-rows, length-bytesOf, rowBytes-append, some-bytes, bytes-joined, bytes-same, cells-bytes, cells-long, n-held, b-held, columns-held, cells-held, g-held, text-held, boundaries-held, char-pos-held, byte-pos-held, cell-starts-held, cell-lengths-held, tag-bytes-held, text-chars-held, rows-held}
 
 -- ---- a buffer that starts with a front of n elements
 pub prefix-at : {n : ℕ} {front d : List ℕ} → Prefix n front d → (i : ℕ) → i < n → getD d i 0 ≡ getD front i 0
@@ -274,7 +274,7 @@ module _ {r : Record} {d : Buffers} {s : Sentence} (h : Holds r d s) where
         b-few = omega (arith, h .formed .text-fits);
         columns-few = omega (arith, h .formed .columns-fit);
         g-few = omega (arith, h .formed .bytes-fit);
-        room = every (λ i. one (parts-held h) i .fits);
+        room = every (λ i. one (prefixes-held h) i .fits);
       }
 
   -- ---- what stands at an index

@@ -24,15 +24,15 @@ pub record Eight (A : Type 0) : Type 0 where
   pub tag-bytes-buf : A
 
 -- that of one buffer
-abbrev pub part : {A : Type 0} → Eight A → Which → A
-part a the-text = a .text-buf
-part a the-types = a .types-buf
-part a the-boundaries = a .boundaries-buf
-part a the-char-pos = a .char-pos-buf
-part a the-byte-pos = a .byte-pos-buf
-part a the-cell-starts = a .cell-starts-buf
-part a the-cell-lengths = a .cell-lengths-buf
-part a the-tag-bytes = a .tag-bytes-buf
+abbrev pub pick : {A : Type 0} → Eight A → Which → A
+pick a the-text = a .text-buf
+pick a the-types = a .types-buf
+pick a the-boundaries = a .boundaries-buf
+pick a the-char-pos = a .char-pos-buf
+pick a the-byte-pos = a .byte-pos-buf
+pick a the-cell-starts = a .cell-starts-buf
+pick a the-cell-lengths = a .cell-lengths-buf
+pick a the-tag-bytes = a .tag-bytes-buf
 
 -- eight things, in the order of the buffers
 abbrev pub eight : {A : Type 0} → A → A → A → A → A → A → A → A → Eight A
@@ -53,10 +53,10 @@ by f = eight (f the-text) (f the-types) (f the-boundaries) (f the-char-pos) (f t
 
 -- a function of each, and a function of each two
 abbrev pub each : {A B : Type 0} → (A → B) → Eight A → Eight B
-each f a = by (λ i. f (part a i))
+each f a = by (λ i. f (pick a i))
 
 abbrev pub pairwise : {A B C : Type 0} → (A → B → C) → Eight A → Eight B → Eight C
-pairwise f a b = by (λ i. f (part a i) (part b i))
+pairwise f a b = by (λ i. f (pick a i) (pick b i))
 
 -- a test is true of every buffer
 unfoldable pub all : (Which → Bool) → Bool
@@ -75,4 +75,4 @@ pub record Every (P : Which → Type 0) : Type 0 where
 
 -- a relation holds of each two
 abbrev pub Each : {A B : Type 0} → (A → B → Type 0) → Eight A → Eight B → Type 0
-Each R a b = Every (λ i. R (part a i) (part b i))
+Each R a b = Every (λ i. R (pick a i) (pick b i))

@@ -9,7 +9,7 @@ use Rattle.laws.specs.Put.{over}
 use Rattle.utf8.specs.Utf8.{scalars, encodes, size}
 use Rattle.sentence.specs.Sentence.{Tag, Mark, none, word, unknown, code, Cells, final, cell, Sentence, text, marks, rows, count, types, charPositions, bytePositions, cut, pad, tagBytes, Formed}
 use Rattle.sheet.specs.declared.Record.{Record}
-use Rattle.sheet.specs.Eight.{Eight, part, eight, each, pairwise, all, Each}
+use Rattle.sheet.specs.Eight.{Eight, pick, eight, each, pairwise, all, Each}
 use denote.Ref.{RefT}
 use denote.Triple.Both.{Both}
 
@@ -102,7 +102,7 @@ takes r = eight (r .b) (r .n) (r .n - 1) (r .n + 1) (r .b + 1) (r .cells) (r .ce
 
 -- there is so much of each
 unfoldable pub enough : Eight ℕ → Eight ℕ → Bool
-enough n l = all (λ i. leb (part n i) (part l i))
+enough n l = all (λ i. leb (pick n i) (pick l i))
 
 -- the buffers have the room that a record takes
 unfoldable pub roomFor : Record → Buffers → Bool
