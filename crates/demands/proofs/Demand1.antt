@@ -21,7 +21,7 @@ use Rattle.utf8.proofs.Codec.{valid-within, encode-decode, length-encode, lengt
 use Rattle.types.specs.declared.ranges.Row.{Row}
 use Rattle.types.specs.TypeOf.{find, ranges, typeOf}
 use Rattle.sentence.specs.declared.Refusal.{Refusal}
-use Rattle.sentence.specs.Sentence.{Mark, word, Sentence, count}
+use Rattle.sentence.specs.Sentence.{Mark, word, Sentence}
 use Rattle.sentence.specs.Reading.{Form, raw, tokenized, partial, Kind, mark, slash, back, plain, kind, Place, start, behind, inTag, gap, State, at, escaped, Act, skip, letter, opens, ofTag, Step, go, stop, ordinary, inside, opening, step, advance, Run, whole, stopped, unfinished, ending, finish, push, follow, run, over, next, Parsed, parsed, add, gather, Result, sentence, refused, built, placed, read}
 use Rattle.sentence.specs.Writing.{written, blank}
 use Rattle.sentence.specs.Refusals.{refusal, Check, check, verdict, sheetOrder, readerOrder, updateOrder, hostOrder}
@@ -46,12 +46,12 @@ use Rattle.tokens.specs.declared.Next.{Next}
 use Rattle.tokens.specs.declared.Next.the-variants as step-answer
 use Rattle.tokens.specs.declared.Token.{Token}
 use Rattle.tokens.specs.Steps.{spanOf, tokensOf, nextOf, listOrder, countOf, Listed}
-use Rattle.write.specs.Answers.{lineOf, writeOrder, Written, copyOf, noRange, withholdOrder, Withholds, keyOf, keyOrder, Keyed}
+use Rattle.write.specs.Answers.{Puts, lineOrder, lineOf}
 use Rattle.convert_buffers.specs.declared.Converted.{Converted}
 use Rattle.convert_buffers.specs.Between.{Outcome, writes, formOf, between, overfull, answerOf, outputOf, Converts}
 use Rattle.convert_buffers.specs.Between.{refuses as no-line}
 use Rattle.convert.specs.Convert.{unknownForms, outOfRange, conversion, codeOf}
-use Rattle.exports.specs.Exports.{noReader, readFirst, readCode, readNumbers, hostAnswer, hostLeaves, HostReads, hostWriteOrder, numberCode, HostWrites, nearest, hostWithholdOrder, HostWithholds, HostKeys, spanned, stepCode, stepSpan, HostSteps}
+use Rattle.exports.specs.Exports.{noReader, readFirst, readCode, readNumbers, hostAnswer, hostLeaves, HostReads, hostWriteOrder, numberCode, HostWrites, nearest, spanned, stepCode, stepSpan, HostSteps}
 use Rattle.respelling.proofs.Runs.{finished}
 use Rattle.respelling.proofs.Whole.{only-whole}
 use Rattle.demands.specs.Demand1.{Said, serves, refuses, ofAnswer, ofNumber, ofSlice, ofNext, ofConverted, Allowed, exactly, allows, oneOf, Answers, Settled, Blanked, formRefusals, lineRefusals, readRefusals, updateRefusals, askRefusals, resetRefusals, fillRefusals, copyRefusals, passRefusals, convertRefusals, Stands, Demand1}
@@ -95,10 +95,6 @@ sheet-13-14 bad out i = (λ e. refl, (λ e. rw (eqb-self i), (λ e. absurd (fals
 sheet-13-12 : (bad short : Bool) (p n : ℕ) → Each (fillRefusals n) (sheetOrder bad false p short n)
 unfolding oneOf allows
 sheet-13-12 bad short p n = (λ e. refl, (λ e. absurd (false≢true e), (λ e. rw (eqb-self n), tt)))
-
-sheet-13-14-12 : (bad out short : Bool) (p n : ℕ) → Each (copyRefusals p n) (sheetOrder bad out p short n)
-unfolding oneOf allows
-sheet-13-14-12 bad out short p n = (λ e. refl, (λ e. rw (eqb-self p), (λ e. rw (eqb-self n), tt)))
 
 sheet-13-14-11 : (bad out lacks : Bool) (i : ℕ) → Each (resetRefusals i) (check bad 13 0 ∷ check out 14 i ∷ check lacks 11 0 ∷ [])
 unfolding oneOf allows
@@ -500,30 +496,23 @@ updates f x d e a w = blanked (ofAnswer a) (rw (w .answer-is, same-is (w .buffer
     blanked (refuses y) h = h
 
 -- ---- the writers
-writer : (f : Form) (r : Record) (d : Buffers) (out out′ : List ℕ) (a : Number) → Written f r d out a out′
-    → Settled (fillRefusals (length (lineOf f r d))) (ofNumber a) out out′
-unfolding writeOrder
-writer f r d out out′ a w =
-    rw (w .answer-is, w .out-is)
-    (settles ofNumber number.Refused tells-number (fillRefusals (length (lineOf f r d))) (writeOrder f r d (length out)) (number.Is (length (lineOf f r d))) out (put (lineOf f r d) out) (serves-number (length (lineOf f r d)))
-    (sheet-13-12 (not (isSheet r d)) (ltb (length out) (length (lineOf f r d))) 0 (length (lineOf f r d))))
+-- the checks of a line of a sheet
+line-13-12 : (r : Record) (d : Buffers) (w : List ℕ) (room : ℕ) → Each (fillRefusals (length w)) (lineOrder r d false 0 w room)
+unfolding lineOrder
+line-13-12 r d w room = sheet-13-12 (not (isSheet r d)) (ltb room (length w)) 0 (length w)
 
-key-of : (r : Record) (d : Buffers) (out out′ : List ℕ) (a : Number) → Keyed r d out a out′
-    → Settled (fillRefusals (length (keyOf r d))) (ofNumber a) out out′
-unfolding keyOrder
-key-of r d out out′ a w =
-    let n = length (keyOf r d) in
-    rw (w .answer-is, w .out-is)
-    (settles ofNumber number.Refused tells-number (fillRefusals n) (keyOrder r d (length out)) (number.Is n) out (put (keyOf r d) out) (serves-number n)
-    (sheet-13-12 (not (isSheet r d)) (ltb (length out) n) 0 n))
+line-13-14-12 : (r : Record) (d : Buffers) (outside : Bool) (first : ℕ) (w : List ℕ) (room : ℕ) → Each (copyRefusals first (length w)) (lineOrder r d outside first w room)
+unfolding lineOrder oneOf allows
+line-13-14-12 r d outside first w room = (λ e. refl, (λ e. rw (eqb-self first), (λ e. rw (eqb-self (length w)), tt)))
 
-withholds : (r : Record) (d : Buffers) (b e : ℕ) (out out′ : List ℕ) (a : Number) → Withholds r d b e out a out′
-    → Settled (copyRefusals b (length (copyOf r d b e))) (ofNumber a) out out′
-unfolding withholdOrder
-withholds r d b e out out′ a w =
-    rw (w .answer-is, w .out-is)
-    (settles ofNumber number.Refused tells-number (copyRefusals b (length (copyOf r d b e))) (withholdOrder r d b e (length out)) (number.Is (length (copyOf r d b e))) out (put (copyOf r d b e) out) (serves-number (length (copyOf r d b e)))
-    (sheet-13-14-12 (not (isSheet r d)) (noRange b e (count (spell r d))) (ltb (length out) (length (copyOf r d b e))) b (length (copyOf r d b e))))
+-- a line that is put by checks which each refuse by one of these
+module _ (qs : List Allowed) {cs : List Check} {w out out′ : List ℕ} (each : Each qs cs) where
+  puts : {a : Number} → Puts (λ n. n) cs w out a out′ → Settled qs (ofNumber a) out out′
+  puts p = rw (p .answer-is, p .out-is) (settles ofNumber number.Refused tells-number qs cs (number.Is (length w)) out (put w out) (serves-number (length w)) each)
+
+  -- and the same told as a number
+  host-puts : {a : ℕ} → Puts numberCode cs w out a out′ → (c : Number) × (a ≡ numberCode c) × Settled qs (ofNumber c) out out′
+  host-puts p = (verdict number.Refused cs (number.Is (length w)), p .answer-is, puts (record { answer-is = refl; out-is = p .out-is }))
 
 -- ---- the conversion
 module _ (reader writer : ℕ) (x out out′ : List ℕ) (place : ℕ) where
@@ -714,27 +703,10 @@ module _ (f : ℕ) (x : List ℕ) (d : Buffers) (ns : List ℕ) where
 
 host-writes : (f : ℕ) (r : Record) (d : Buffers) (out out′ : List ℕ) (a : ℕ) → HostWrites f r d out a out′
     → (c : Number) × (a ≡ numberCode c) × Settled (exactly 16 0 ∷ fillRefusals (length (lineOf (formOf f) r d))) (ofNumber c) out out′
-unfolding hostWriteOrder writeOrder oneOf allows
+unfolding hostWriteOrder lineOrder oneOf allows
 host-writes f r d out out′ a w =
-    let n = length (lineOf (formOf f) r d) in (
-      verdict number.Refused (hostWriteOrder f r d (length out)) (number.Is n),
-      w .answer-is,
-      rw (w .out-is)
-          (settles ofNumber number.Refused tells-number (exactly 16 0 ∷ fillRefusals n) (hostWriteOrder f r d (length out)) (number.Is n) out (put (lineOf (formOf f) r d) out) (serves-number n)
-          (λ e. refl, (λ e. refl, (λ e. absurd (false≢true e), (λ e. rw (eqb-self n), tt))))),
-    )
-
-host-withholds : (r : Record) (d : Buffers) (b e : ℕ) (out out′ : List ℕ) (a : ℕ) → HostWithholds r d b e out a out′
-    → (c : Number) × (a ≡ numberCode c) × Settled (copyRefusals (nearest b) (length (copyOf r d b e))) (ofNumber c) out out′
-unfolding hostWithholdOrder
-host-withholds r d b e out out′ a w =
-    let n = length (copyOf r d b e) in (
-      verdict number.Refused (hostWithholdOrder r d b e (length out)) (number.Is n),
-      w .answer-is,
-      rw (w .out-is)
-          (settles ofNumber number.Refused tells-number (copyRefusals (nearest b) n) (hostWithholdOrder r d b e (length out)) (number.Is n) out (put (copyOf r d b e) out) (serves-number n)
-          (sheet-13-14-12 (not (isSheet r d)) (noRange b e (count (spell r d))) (ltb (length out) n) (nearest b) n)),
-    )
+    let n = length (lineOf (formOf f) r d) in
+    host-puts (exactly 16 0 ∷ fillRefusals n) (λ e. refl, (λ e. refl, (λ e. absurd (false≢true e), (λ e. rw (eqb-self n), tt)))) w
 
 -- a step, told in a span with so much room
 spans : (s : Next) (span : List ℕ) (b : Bool) → ltb (length span) 2 ≡ b → Answers (exactly 13 0 ∷ []) (ofNext s)
@@ -747,12 +719,6 @@ spans (step-answer.Refused q) span b e h = (first (allows (exactly 13 0) q) _ h,
     first : (a b : Bool) → (a || false) ≡ true → (a || b) ≡ true
     first true b k = refl
     first false b k = absurd (false≢true k)
-
-host-key-of : (r : Record) (d : Buffers) (out out′ : List ℕ) (a : ℕ) → HostKeys r d out a out′
-    → (c : Number) × (a ≡ numberCode c) × Settled (fillRefusals (length (keyOf r d))) (ofNumber c) out out′
-host-key-of r d out out′ a w =
-    let c = verdict number.Refused (keyOrder r d (length out)) (number.Is (length (keyOf r d))) in
-    (c, w .answer-is, key-of r d out out′ c (record { answer-is = refl; out-is = w .out-is }))
 
 host-steps : (r : Record) (d : Buffers) (p : ℕ) (span span′ : List ℕ) (a : ℕ) → HostSteps r d p span a span′
     → (c : Next) × (a ≡ stepCode c) × Settled (exactly 13 0 ∷ exactly 14 0 ∷ []) (ofNext c) span span′
@@ -769,10 +735,10 @@ demand-1 = record {
   update-raw = λ x d e a w. updates raw x d e a w;
   update-tokenized = λ x d e a w. updates tokenized x d e a w;
   update-partial-annotation = λ x d e a w. updates partial x d e a w;
-  write-tokenized-text = λ r d out out′ a w. writer tokenized r d out out′ a w;
-  write-partial-annotation-text = λ r d out out′ a w. writer partial r d out out′ a w;
-  note-key = λ r d out out′ a w. key-of r d out out′ a w;
-  write-withheld-text = λ r d b e out out′ a w. withholds r d b e out out′ a w;
+  write-tokenized-text = λ r d out out′ a w. puts (fillRefusals _) (line-13-12 r d _ _) w;
+  write-partial-annotation-text = λ r d out out′ a w. puts (fillRefusals _) (line-13-12 r d _ _) w;
+  note-key = λ r d out out′ a w. puts (fillRefusals _) (line-13-12 r d _ _) w;
+  write-withheld-text = λ r d b e out out′ a w. puts (copyRefusals b _) (line-13-14-12 r d _ b _ _) w;
   next-token = λ r d p a e. rw e (stepped r d p);
   token-list = λ r d l l′ a w. lists r d l l′ a w;
   char-to-str-pos = λ r d i a e. rw e (char-pos (isSheet r d) (spell r d) i);
@@ -791,8 +757,8 @@ demand-1 = record {
   ighdelmur-convert = λ f g x out out′ p a w. converts-host f g x out out′ p a w;
   ighdelmur-read = λ f x d e ns ns′ a w. host-reads f x d ns e ns′ a w;
   ighdelmur-write = λ f r d out out′ a w. host-writes f r d out out′ a w;
-  ighdelmur-withhold = λ r d b e out out′ a w. host-withholds r d b e out out′ a w;
-  ighdelmur-key = λ r d out out′ a w. host-key-of r d out out′ a w;
+  ighdelmur-withhold = λ r d b e out out′ a w. host-puts (copyRefusals (nearest b) _) (line-13-14-12 r d _ (nearest b) _ _) w;
+  ighdelmur-key = λ r d out out′ a w. host-puts (fillRefusals _) (line-13-12 r d _ _) w;
   ighdelmur-next-token = λ r d p span span′ a w. host-steps r d p span span′ a w;
   program-ends = λ room x w a h r g f. finished room h r g f;
   program-waits = λ room x w a h r f. (_, only-whole room h r f);

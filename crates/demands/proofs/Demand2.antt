@@ -43,7 +43,7 @@ use Rattle.tokens.specs.declared.Token.{Token}
 use Rattle.tokens.specs.declared.Next.{Next}
 use Rattle.tokens.specs.declared.Next.the-variants as next
 use Rattle.tokens.specs.Steps.{spanOf, stepOf, nextOf, listOrder, countOf, Listed}
-use Rattle.write.specs.Answers.{writeOrder, Written}
+use Rattle.write.specs.Answers.{lineOrder, Written}
 use Rattle.demands.specs.Demand2.{Lies, Taken, Writes, Spells, Tells, Demand2}
 use Rattle.demands.specs.Demand2 as says
 
@@ -94,7 +94,7 @@ refused-by f x n p d e a i w = w .answer-is ∙ rw i
 
 writes : (f : Form) (r : Record) (d : Buffers) (s : Sentence) (out out′ : List ℕ) (a : Number) → Holds r d s → needed f s ≤ length out
     → Written f r d out a out′ → (a ≡ number.Is (needed f s)) × (out′ ≡ over (written f s) out)
-unfolding writeOrder verdict if_then_else_
+unfolding lineOrder verdict if_then_else_
 writes f r d s out out′ a h k w =
     let g = holds-is r d s h in
     let z = spelled r d s h in
@@ -102,7 +102,7 @@ writes f r d s out out′ a h k w =
     (w .answer-is ∙ rw (g, z, l), w .out-is ∙ rw (g, z, l))
 
 writes-any : (f : Form) → Annotated f → (r : Record) (d : Buffers) (out out′ : List ℕ) (a : Number) → Written f r d out a out′ → Writes f r d out a out′
-unfolding writeOrder verdict if_then_else_
+unfolding lineOrder verdict if_then_else_
 writes-any f an r d out out′ a w = on (isSheet r d) refl
   where
     on : (b : Bool) → isSheet r d ≡ b → Writes f r d out a out′

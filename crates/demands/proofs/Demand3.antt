@@ -9,7 +9,6 @@ use borrow.Author.Tests.{eq-eqb, lt-leb, le-ltb}
 use lib.Dec.{ltb}
 use lib.IntN.{ℤ}
 use lib.ListN.{length, take, drop, replicate, length-replicate}
-use lib.Seq.{take-append-seam}
 use Rattle.laws.specs.If.{if_then_else_}
 use Rattle.laws.specs.Put.{over}
 use Rattle.laws.proofs.Facts.{reads}
@@ -34,21 +33,20 @@ use Rattle.scores.proofs.After.{predicted-holds}
 use Rattle.read_load.specs.Load.{lacks, readAnswer, readLeaves, ReadDoes}
 use Rattle.sheet.proofs.Eights.{every, pick-each, same-self, same-is}
 use Rattle.read_load.proofs.Laws.{holding}
-use Rattle.write.specs.Answers.{writeOrder}
-use Rattle.write.proofs.Laws.{took}
+use Rattle.write.specs.Answers.{lineOf, Written}
+use Rattle.write.proofs.Laws.{front, serves}
 use Rattle.convert_buffers.specs.declared.Converted.{Converted}
 use Rattle.convert_buffers.specs.declared.Converted.the-variants as converted
 use Rattle.convert_buffers.specs.Between.{Outcome, writes, refuses, formOf, between, overfull, answerOf, outputOf, Converts}
 use Rattle.convert.specs.Convert.{unknownForms, outOfRange, conversion}
+use Rattle.demands.proofs.Calls.{given}
 use Rattle.demands.proofs.Demand2.{demand-2}
 use Rattle.demands.specs.Demand3.{Spelt, Respelt, Changed, boundary-set, tags-reset, predicted, Tokenwise, Demand3}
 
 -- ---- sheets
 -- the written line of the sentence that a sheet holds
 spells : (g : Form) (r : Record) (d : Buffers) (s : Sentence) (w : List ℕ) → Holds r d s → Spelt g r d w → w ≡ written g s
-spells g r d s w h p =
-    let t = took (p .writes) refl in
-    p .line-is ∙ rw (t .out-is, t .length-is) (take-append-seam _ _) ∙ ap (written g) (spelled r d s h)
+spells g r d s w h p = p .line-is ∙ front r d false 0 (p .does) refl ∙ ap (written g) (spelled r d s h)
 
 short : (u v : List ℕ) → u ≡ v → length u ≤ 4096 → length v ≤ 4096
 short u v e le = subst (λ (w : List ℕ). length w ≤ 4096) e le
@@ -206,19 +204,9 @@ unfolding zeros
 enough r = room-has r (zeros r) (every (λ i. rw (pick-each (λ (n : ℕ). replicate {A = ℕ} n 0) (takes r) i, long) (omega arith)))
 
 spelt : (g : Form) (r : Record) (d : Buffers) (s : Sentence) → Holds r d s → Spelt g r d (written g s)
-unfolding writeOrder verdict if_then_else_
 spelt g r d s h =
-    let out : List ℕ = replicate (needed g s) 0 in
-    let i = holds-is r d s h in
     let z = spelled r d s h in
-    let l = le-ltb (length out) (needed g s) (omega (arith, long (needed g s))) in
-    record {
-      output-before = out;
-      output-after = over (written g s) out;
-      the-length = needed g s;
-      writes = record { answer-is = rw (i, z, l); out-is = rw (i, z, l) };
-      line-is = sym (take-append-seam _ _);
-    }
+    subst (λ (t : Sentence). Spelt g r d (written g t)) z (given (Written g) (lineOf g r d) (λ out l. serves r d false 0 (rw z h) refl l))
 
 respelt : (f g : Form) (x : List ℕ) (s : Sentence) → read f x ≡ sentence s → Respelt f g x (written g s)
 unfolding readAnswer readLeaves readerOrder verdict lacks if_then_else_

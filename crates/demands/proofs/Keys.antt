@@ -2,6 +2,7 @@
 use Prim.Native.Nat.{ℕ, _≤_}
 use mathlib.Core.Path.{_≡_, refl, sym, ap, subst, _∙_}
 use mathlib.Core.Logic.{_↔_}
+use mathlib.Core.Bool.{false}
 use mathlib.Core.List.{List}
 use lib.ListN.{length}
 use Rattle.sentence.specs.Sentence.{Sentence, Formed}
@@ -14,7 +15,8 @@ use Rattle.sheet.specs.declared.Record.{Record}
 use Rattle.sheet.specs.Layout.{Buffers, spell, Sheet}
 use Rattle.sheet.proofs.Held.{spelled}
 use Rattle.write.specs.Answers.{Keyed, keyOf}
-use Rattle.write.proofs.Keys as write
+use Rattle.write.proofs.Laws as write
+use Rattle.write.proofs.Keys.{copy-key}
 use Rattle.demands.proofs.Calls.{given, laid-is}
 use Rattle.demands.proofs.Demand3.{demand-3}
 use Rattle.demands.specs.Calls.{Laid}
@@ -24,13 +26,13 @@ use Rattle.demands.specs.Keys.{HasKey, LineKey, LastUsed, NoteKey}
 module _ {r : Record} {d : Buffers} where
   -- a key that was given is that of a sheet
   sheet-of : {k : List ℕ} → HasKey r d k → Sheet r d
-  sheet-of p = write.key-sheet (p .does) refl
+  sheet-of p = write.took r d false 0 (p .does) refl .sheet
 
   key-of : {k : List ℕ} → HasKey r d k → k ≡ keyOf r d
-  key-of p = p .line-is ∙ write.key-front (p .does) refl
+  key-of p = p .line-is ∙ write.front r d false 0 (p .does) refl
 
   keyed : Sheet r d → HasKey r d (keyOf r d)
-  keyed h = given Keyed (keyOf r d) (λ out l. write.key-serves h l)
+  keyed h = given Keyed (keyOf r d) (λ out l. write.serves r d false 0 h refl l)
 
   back : {k : List ℕ} → HasKey r d k → length k ≤ 4096 → read partial k ≡ sentence (trimmed (spell r d))
   back p l = let i = key-of p in rw i (key-reads (spell r d) (sheet-of p .formed) (rw i at l))
@@ -82,14 +84,16 @@ note-keys = record {
   cut-back = λ r d h. last-used (spell r d) (h .formed);
   kept = λ r d. trimmed-note (spell r d);
   tells = λ r q d c k l p o. tells p o;
-  alike = λ r q d c t n. record {
-    same-answer = write.key-answers-same (t .sheet-1) (t .sheet-2) n (t .call-1) (t .call-2);
-    same-output = write.key-outputs-same (t .sheet-1) (t .sheet-2) n (t .call-1) (t .call-2);
-  };
+  alike = λ r q d c t n.
+      let l = same-key (spell r d) (spell q c) (t .sheet-1 .formed) (t .sheet-2 .formed) .1 n in
+      record {
+        same-answer = write.answers-same 0 (t .sheet-1) (t .sheet-2) refl l (t .call-1) (t .call-2);
+        same-output = write.outputs-same 0 (t .sheet-1) (t .sheet-2) refl l (t .call-1) (t .call-2);
+      };
   lines-keyed = line-keyed;
   lines-tell = λ f g x y k l s t e i p o. lines-tell e i p o;
   beside-lines = λ r q d c u v k l m n p o. beside m n p o;
-  is-copy = λ r d b out out′ a h. write.copy-key r d b h;
+  is-copy = λ r d b out out′ a h. copy-key r d b h;
   reads-back = λ r d k p l. back p l;
   own-key = λ r d k l p h o. own p h o;
 }

@@ -39,7 +39,7 @@ use Rattle.changes.specs.Changes.{lackCells, resetAnswer, TagsReset}
 use Rattle.read_load.specs.Load.{ReadDoes}
 use Rattle.tokens.specs.declared.Token.{Token}
 use Rattle.tokens.specs.Steps.{spanOf, nextOf, listOrder, countOf, Listed}
-use Rattle.write.specs.Answers.{writeOrder, Written, noRange, withholdOrder, Withholds, keyOrder, Keyed}
+use Rattle.write.specs.Answers.{lineOrder}
 use Rattle.convert_buffers.specs.declared.Converted.{Converted}
 use Rattle.convert_buffers.specs.declared.Converted.the-variants as converted
 use Rattle.convert_buffers.specs.Between.{writes, refuses, formOf, overfull, between, answerOf, outputOf, Converts}
@@ -98,7 +98,7 @@ no-other r d n =
 
 -- ---- the answers
 told : (r : Record) (d : Buffers) (t : Sentence) → isSheet r d ≡ true → spell r d ≡ t → ToldOf r d t
-unfolding nextOf countOf listOrder writeOrder withholdOrder keyOrder verdict if_then_else_
+unfolding nextOf countOf listOrder lineOrder verdict if_then_else_
 told r d t g z = record {
   char-to-str-pos = λ i a e. e ∙ rw (g, z);
   str-to-char-pos = λ p a e. e ∙ rw (g, z);

@@ -13,7 +13,6 @@ use Rattle.sentence.specs.Writing.{written, setBoundary, resetTags, scored}
 use Rattle.sheet.specs.declared.Record.{Record}
 use Rattle.sheet.specs.declared.Answer.{Answer}
 use Rattle.sheet.specs.declared.Answer.the-variants as answer
-use Rattle.sheet.specs.declared.Number.the-variants as number
 use Rattle.sheet.specs.Layout.{Buffers, recordOf, roomFor, Holds, markOf}
 use Rattle.changes.specs.Changes.{BoundarySet, TagsReset}
 use Rattle.scores.specs.Scores.{Predicted}
@@ -23,14 +22,11 @@ use Rattle.convert_buffers.specs.declared.Converted.{Converted}
 use Rattle.convert_buffers.specs.declared.Converted.the-variants as converted
 use Rattle.convert_buffers.specs.Between.{formOf, Converts}
 use Rattle.convert.specs.Convert.{conversion}
+use Rattle.demands.specs.Calls.{Gives}
 
 -- writing the record r and the buffers d in the form g puts w at the front of an output, by the writers' contract
-pub record Spelt (g : Form) (r : Record) (d : Buffers) (w : List ℕ) : Type 0 where
-  pub output-before : List ℕ
-  pub output-after : List ℕ
-  pub the-length : ℕ
-  pub writes : Written g r d output-before (number.Is the-length) output-after
-  pub line-is : w ≡ take the-length output-after
+abbrev pub Spelt : Form → Record → Buffers → List ℕ → Type 0
+Spelt g r d w = Gives (Written g) r d w
 
 -- reading the line x in the form f leaves a sentence in the buffers, by the readers' contract; writing it in the form g puts w
 pub record Respelt (f g : Form) (x w : List ℕ) : Type 0 where

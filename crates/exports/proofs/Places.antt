@@ -12,7 +12,7 @@ use Rattle.sentence.specs.declared.Refusal.{Refusal}
 use Rattle.sentence.specs.Sentence.{Sentence}
 use Rattle.sentence.specs.Reading.{Form, partial, Result, sentence, refused, read}
 use Rattle.sentence.specs.Withheld.{trimmed, withheld}
-use Rattle.sentence.specs.Refusals.{refusal, verdict, sheetOrder, readerOrder, hostOrder}
+use Rattle.sentence.specs.Refusals.{refusal, verdict, readerOrder, hostOrder}
 use Rattle.sentence.proofs.Withheld.{formed-trimmed}
 use Rattle.sheet.specs.Layout.{Buffers, recordOf, spell, Sheet}
 use Rattle.sheet.specs.Check.{isSheet}
@@ -25,7 +25,7 @@ use Rattle.sheet.specs.declared.Number.the-variants as number
 use Rattle.read_load.specs.Load.{lacks, readAnswer, ReadDoes}
 use Rattle.write_partial.proofs.Count.{line-few}
 use Rattle.write_partial.proofs.Widest.{columns-few}
-use Rattle.write.specs.Answers.{lineOf, writeOrder, Written, copyOf, keyOf, keyOrder, Keyed}
+use Rattle.write.specs.Answers.{lineOrder, PutsLine, lineOf, Written, copyOf, keyOf, Keyed}
 use Rattle.tokens.specs.Steps.{nextOf}
 use Rattle.tokens.specs.declared.Next.{Next}
 use Rattle.tokens.specs.declared.Next.the-variants as next
@@ -56,25 +56,19 @@ pub answer-near : {a : Answer} {q : Refusal} → NearAnswer a → a ≡ answer.R
 unfolding NearAnswer
 answer-near h e = rw e at h
 
--- ---- a writer's, where a line of n bytes is served or refused
-near-filled : (bad short : Bool) (n : ℕ) → (bad ≡ false → n < 2 ^ 32) → NearNumber (verdict number.Refused (sheetOrder bad false 0 short n) (number.Is n))
-unfolding verdict NearNumber
-near-filled bad short n h =
-    if-cases NearNumber bad _ _ (λ _. omega arith)
-    (λ e. if-cases NearNumber false _ _ (λ _. omega arith) (λ _. if-cases NearNumber short _ _ (λ _. h e) (λ _. tt)))
+-- ---- a writer's, where a line is short
+near-put : (r : Record) (d : Buffers) (w : List ℕ) {out out′ : List ℕ} {a : Number} → (Sheet r d → length w < 2 ^ 32) → PutsLine r d false 0 w out a out′ → NearNumber a
+unfolding lineOrder verdict NearNumber
+near-put r d w {out} h p =
+    rw (p .answer-is)
+    (if-cases NearNumber (not (isSheet r d)) _ _ (λ _. omega arith)
+    (λ e. if-cases NearNumber false _ _ (λ _. omega arith) (λ _. if-cases NearNumber (ltb (length out) (length w)) _ _ (λ _. h (is-sheet r d (not-false _ e))) (λ _. tt))))
 
 pub near-written : (f : Form) (r : Record) (d : Buffers) {out out′ : List ℕ} {a : Number} → Written f r d out a out′ → NearNumber a
-unfolding writeOrder
-near-written f r d {out} w =
-    let n = length (lineOf f r d) in
-    rw (w .answer-is) (near-filled (not (isSheet r d)) (ltb (length out) n) n (λ e. written-small (spell r d) (is-sheet r d (not-false _ e) .formed) f))
+near-written f r d w = near-put r d (lineOf f r d) (λ h. written-small (spell r d) (h .formed) f) w
 
 pub near-keyed : (r : Record) (d : Buffers) {out out′ : List ℕ} {a : Number} → Keyed r d out a out′ → NearNumber a
-unfolding keyOrder
-near-keyed r d {out} w =
-    let n = length (keyOf r d) in
-    rw (w .answer-is)
-    (near-filled (not (isSheet r d)) (ltb (length out) n) n (λ e. written-small (trimmed (spell r d)) (formed-trimmed (spell r d) (is-sheet r d (not-false _ e) .formed)) partial))
+near-keyed r d w = near-put r d (keyOf r d) (λ h. written-small (trimmed (spell r d)) (formed-trimmed (spell r d) (h .formed)) partial) w
 
 pub number-near : {a : Number} {q : Refusal} → NearNumber a → a ≡ number.Refused q → q .place < 2 ^ 32
 unfolding NearNumber

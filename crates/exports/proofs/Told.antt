@@ -23,7 +23,7 @@ use Rattle.sheet.specs.declared.Number.{Number}
 use Rattle.sheet.specs.declared.Number.the-variants as number
 use Rattle.read_load.specs.Load.{readAnswer, ReadDoes}
 use Rattle.sheet.proofs.Eights.{same-self}
-use Rattle.write.specs.Answers.{Written, copyOf, noRange, withholdOrder, Withholds, Keyed}
+use Rattle.write.specs.Answers.{Written, copyOf, noRange, Withholds, Keyed, lineOrder}
 use Rattle.tokens.specs.Steps.{nextOf}
 use Rattle.tokens.specs.declared.Token.{Token as Span}
 use Rattle.tokens.specs.declared.Step.{Step}
@@ -33,7 +33,7 @@ use Rattle.tokens.specs.declared.Next.the-variants as next
 use Rattle.convert_buffers.specs.Between.{formOf}
 use Rattle.convert_buffers.proofs.Written.{is-partial}
 use Rattle.exports.proofs.Places.{nearest-length}
-use Rattle.exports.specs.Exports.{refusalCode, noReader, numbersOf, readFirst, readCode, readNumbers, ReadTold, hostAnswer, hostLeaves, HostReads, noWriter, hostWriteOrder, numberCode, HostWrites, nearest, nearestIn, hostWithholdOrder, HostWithholds, HostKeys, spanned, stepCode, stepSpan, Tells, HostSteps}
+use Rattle.exports.specs.Exports.{refusalCode, noReader, numbersOf, readFirst, readCode, readNumbers, ReadTold, hostAnswer, hostLeaves, HostReads, noWriter, hostWriteOrder, numberCode, HostWrites, nearest, nearestIn, HostWithholds, HostKeys, spanned, stepCode, stepSpan, Tells, HostSteps}
 
 -- ---- reading
 pub stored : (r : Record) (ns : List ℕ) → 5 ≤ length ns → set (set (set (set (set ns 0 (r .n)) 1 (r .b)) 2 (r .columns)) 3 (r .cells)) 4 (r .g) ≡ over (numbersOf r) ns
@@ -80,7 +80,7 @@ pub told-number : {a : Number} {q : Refusal} {c : ℕ} → a ≡ number.Refused 
 unfolding numberCode
 told-number e i = rw e i
 
-module _ (f : ℕ) {r : Record} {d : Buffers} {out out′ : List ℕ} {a : Number} where
+module _ (f : ℕ) (r : Record) (d : Buffers) {out out′ : List ℕ} {a : Number} where
   pub as-tokenized : f ≡ 1 → Written tokenized r d out a out′ → Written (formOf f) r d out a out′
   unfolding formOf
   as-tokenized e w = rw e w
@@ -118,7 +118,7 @@ brought false false false b n h = refl
 
 pub withholds : (r : Record) (d : Buffers) (b e : ℕ) (out : List ℕ) (a : Number) {n : Number} {c : ℕ} {out′ : List ℕ}
     → Withholds r d b e out a out′ → n ≡ nearestIn a → c ≡ numberCode n → HostWithholds r d b e out c out′
-unfolding withholdOrder hostWithholdOrder verdict
+unfolding lineOrder verdict
 withholds r d b e out a w i q =
     let n = length (copyOf r d b e) in
     let near = brought (not (isSheet r d)) (noRange b e (count (spell r d))) (ltb (length out) n) b n (λ z. nearest-length b e (is-sheet r d (not-false _ z))) in

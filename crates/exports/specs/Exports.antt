@@ -1,7 +1,7 @@
 -- What the host's calls besides the conversion answer as one number, and what they leave in lent memory.
 use Prim.Native.Nat.{ℕ, _<_, _^_}
 use mathlib.Core.Path.{_≡_}
-use mathlib.Core.Bool.{Bool, not, _||_}
+use mathlib.Core.Bool.{Bool, false, _||_}
 use mathlib.Core.List.{List, [], _∷_}
 use lib.Dec.{eqb, ltb}
 use lib.ListN.{length}
@@ -9,17 +9,16 @@ use Rattle.laws.specs.If.{if_then_else_}
 use Rattle.laws.specs.Put.{over}
 use Rattle.sentence.specs.Sentence.{count}
 use Rattle.sentence.specs.Reading.{read}
-use Rattle.sentence.specs.Refusals.{refusal, Check, check, verdict, sheetOrder}
+use Rattle.sentence.specs.Refusals.{refusal, Check, check, verdict}
 use Rattle.sentence.specs.declared.Refusal.{Refusal}
 use Rattle.sheet.specs.Layout.{Buffers, Same, spell}
-use Rattle.sheet.specs.Check.{isSheet}
 use Rattle.sheet.specs.declared.Record.{Record}
 use Rattle.sheet.specs.declared.Answer.{Answer}
 use Rattle.sheet.specs.declared.Answer.the-variants as answer
 use Rattle.sheet.specs.declared.Number.{Number}
 use Rattle.sheet.specs.declared.Number.the-variants as number
 use Rattle.read_load.specs.Load.{readAnswer, readLeaves}
-use Rattle.write.specs.Answers.{lineOf, writeOrder, copyOf, noRange, keyOf, keyOrder}
+use Rattle.write.specs.Answers.{Puts, lineOrder, lineOf, copyOf, noRange, keyOf}
 use Rattle.tokens.specs.Steps.{nextOf}
 use Rattle.tokens.specs.declared.Step.{Step}
 use Rattle.tokens.specs.declared.Step.the-variants.{Serves, Done}
@@ -95,7 +94,7 @@ noWriter f = eqb f 0 || ltb 2 f
 
 -- 16, then what the writer refuses
 unfoldable pub hostWriteOrder : ℕ → Record → Buffers → ℕ → List Check
-hostWriteOrder f r d room = check (noWriter f) 16 0 ∷ writeOrder (formOf f) r d room
+hostWriteOrder f r d room = check (noWriter f) 16 0 ∷ lineOrder r d false 0 (lineOf (formOf f) r d) room
 
 -- a length as it is
 unfoldable pub numberCode : Number → ℕ
@@ -107,10 +106,9 @@ unfoldable pub NearNumber : Number → Type 0
 NearNumber (number.Is n) = Unit {0}
 NearNumber (number.Refused q) = Near q
 
--- the number a, and the output after it: the line stands over its front; a refusal alters nothing
-pub record HostWrites (f : ℕ) (r : Record) (d : Buffers) (out : List ℕ) (a : ℕ) (out′ : List ℕ) : Type 0 where
-  pub answer-is : a ≡ numberCode (verdict number.Refused (hostWriteOrder f r d (length out)) (number.Is (length (lineOf (formOf f) r d))))
-  pub out-is : out′ ≡ verdict (λ (q : Refusal). out) (hostWriteOrder f r d (length out)) (over (lineOf (formOf f) r d) out)
+-- the answer's number, and the output after it
+abbrev pub HostWrites : ℕ → Record → Buffers → List ℕ → ℕ → List ℕ → Type 0
+HostWrites f r d out a out′ = Puts numberCode (hostWriteOrder f r d (length out)) (lineOf (formOf f) r d) out a out′
 
 -- ---- the withheld copy
 -- a place as the host's number holds it: 2^32 - 1 stands for every place from there on
@@ -122,21 +120,15 @@ unfoldable pub nearestIn : Number → Number
 nearestIn (number.Is n) = number.Is n
 nearestIn (number.Refused q) = number.Refused (refusal (q .number) (nearest (q .place)))
 
--- 13, then 14 at the range's start as it is held, then 12 at the bytes needed
-unfoldable pub hostWithholdOrder : Record → Buffers → ℕ → ℕ → ℕ → List Check
-hostWithholdOrder r d b e room =
-    sheetOrder (not (isSheet r d)) (noRange b e (count (spell r d))) (nearest b) (ltb room (length (copyOf r d b e))) (length (copyOf r d b e))
-
--- the number a, and the output after it: the copy's line stands over its front; a refusal alters nothing
-pub record HostWithholds (r : Record) (d : Buffers) (b e : ℕ) (out : List ℕ) (a : ℕ) (out′ : List ℕ) : Type 0 where
-  pub answer-is : a ≡ numberCode (verdict number.Refused (hostWithholdOrder r d b e (length out)) (number.Is (length (copyOf r d b e))))
-  pub out-is : out′ ≡ verdict (λ (q : Refusal). out) (hostWithholdOrder r d b e (length out)) (over (copyOf r d b e) out)
+-- the answer's number, with the range's start as it is held, and the output after it
+abbrev pub HostWithholds : Record → Buffers → ℕ → ℕ → List ℕ → ℕ → List ℕ → Type 0
+HostWithholds r d b e out a out′ =
+    Puts numberCode (lineOrder r d (noRange b e (count (spell r d))) (nearest b) (copyOf r d b e) (length out)) (copyOf r d b e) out a out′
 
 -- ---- the note key
--- the number a, and the output after it: the key stands over its front; a refusal alters nothing
-pub record HostKeys (r : Record) (d : Buffers) (out : List ℕ) (a : ℕ) (out′ : List ℕ) : Type 0 where
-  pub answer-is : a ≡ numberCode (verdict number.Refused (keyOrder r d (length out)) (number.Is (length (keyOf r d))))
-  pub out-is : out′ ≡ verdict (λ (q : Refusal). out) (keyOrder r d (length out)) (over (keyOf r d) out)
+-- the answer's number, and the output after it
+abbrev pub HostKeys : Record → Buffers → List ℕ → ℕ → List ℕ → Type 0
+HostKeys r d out a out′ = Puts numberCode (lineOrder r d false 0 (keyOf r d) (length out)) (keyOf r d) out a out′
 
 -- ---- a step of the token cursor
 -- where the step itself is not refused: 14 for a span of fewer numbers than two

@@ -18,18 +18,27 @@ use Rattle.sheet.specs.declared.Number.the-variants.{Is, Refused}
 use Rattle.sheet.specs.Layout.{Buffers, spell}
 use Rattle.sheet.specs.Check.{isSheet}
 
+-- the answer, as told, and the output after it: the line w over its front, or the first of these refusals, which alters nothing
+pub record Puts {A : Type 0} (tell : Number → A) (checks : List Check) (w out : List ℕ) (answer : A) (out′ : List ℕ) : Type 0 where
+  pub answer-is : answer ≡ tell (verdict Refused checks (Is (length w)))
+  pub out-is : out′ ≡ verdict (λ e. out) checks (over w out)
+
+-- a line of a sheet, and room for so many bytes: 13, then 14 at the first number given where one is out of range, then 12 at the bytes needed
+unfoldable pub lineOrder : Record → Buffers → Bool → ℕ → List ℕ → ℕ → List Check
+lineOrder r d outside first w room = sheetOrder (not (isSheet r d)) outside first (ltb room (length w)) (length w)
+
+-- the line w of a sheet stands over the front of the output, or is refused so
+abbrev pub PutsLine : Record → Buffers → Bool → ℕ → List ℕ → List ℕ → Number → List ℕ → Type 0
+PutsLine r d outside first w out answer out′ = Puts (λ n. n) (lineOrder r d outside first w (length out)) w out answer out′
+
+-- ---- the two writers
 -- the line of the sentence that lies in a sheet
 abbrev pub lineOf : Form → Record → Buffers → List ℕ
 lineOf f r d = written f (spell r d)
 
--- an output with room for so many bytes is refused by 13, then by 12 at the bytes needed
-unfoldable pub writeOrder : Form → Record → Buffers → ℕ → List Check
-writeOrder f r d room = sheetOrder (not (isSheet r d)) false 0 (ltb room (length (lineOf f r d))) (length (lineOf f r d))
-
--- the answer is the line's length, and the line stands over the front of the output; a refusal alters nothing
-pub record Written (f : Form) (r : Record) (d : Buffers) (out : List ℕ) (answer : Number) (out′ : List ℕ) : Type 0 where
-  pub answer-is : answer ≡ verdict Refused (writeOrder f r d (length out)) (Is (length (lineOf f r d)))
-  pub out-is : out′ ≡ verdict (λ e. out) (writeOrder f r d (length out)) (over (lineOf f r d) out)
+-- that line is put, or refused by 13 or 12: there is no number that could be out of range
+abbrev pub Written : Form → Record → Buffers → List ℕ → Number → List ℕ → Type 0
+Written f r d out answer out′ = PutsLine r d false 0 (lineOf f r d) out answer out′
 
 -- ---- the withheld copy
 -- the line of the sentence that lies in a sheet, with the characters from b up to e withheld
@@ -40,24 +49,15 @@ copyOf r d b e = written partial (withheld b e (spell r d))
 abbrev pub noRange : ℕ → ℕ → ℕ → Bool
 noRange b e n = ltb e b || ltb n e
 
--- refused by 13, then by 14 at the range's start, then by 12 at the bytes needed
-unfoldable pub withholdOrder : Record → Buffers → ℕ → ℕ → ℕ → List Check
-withholdOrder r d b e room = sheetOrder (not (isSheet r d)) (noRange b e (count (spell r d))) b (ltb room (length (copyOf r d b e))) (length (copyOf r d b e))
-
-pub record Withholds (r : Record) (d : Buffers) (b e : ℕ) (out : List ℕ) (answer : Number) (out′ : List ℕ) : Type 0 where
-  pub answer-is : answer ≡ verdict Refused (withholdOrder r d b e (length out)) (Is (length (copyOf r d b e)))
-  pub out-is : out′ ≡ verdict (λ x. out) (withholdOrder r d b e (length out)) (over (copyOf r d b e) out)
+-- that line is put, or refused by 13, by 14 at the start of a range that is none of the sentence's, or by 12
+abbrev pub Withholds : Record → Buffers → ℕ → ℕ → List ℕ → Number → List ℕ → Type 0
+Withholds r d b e out answer out′ = PutsLine r d (noRange b e (count (spell r d))) b (copyOf r d b e) out answer out′
 
 -- ---- the note key
 -- the key of the sentence that lies in a sheet
 abbrev pub keyOf : Record → Buffers → List ℕ
 keyOf r d = key (spell r d)
 
--- refused by 13, then by 12 at the bytes needed
-unfoldable pub keyOrder : Record → Buffers → ℕ → List Check
-keyOrder r d room = sheetOrder (not (isSheet r d)) false 0 (ltb room (length (keyOf r d))) (length (keyOf r d))
-
--- the answer is the key's length, and the key stands over the front of the output; a refusal alters nothing
-pub record Keyed (r : Record) (d : Buffers) (out : List ℕ) (answer : Number) (out′ : List ℕ) : Type 0 where
-  pub answer-is : answer ≡ verdict Refused (keyOrder r d (length out)) (Is (length (keyOf r d)))
-  pub out-is : out′ ≡ verdict (λ x. out) (keyOrder r d (length out)) (over (keyOf r d) out)
+-- that key is put, or refused by 13 or 12
+abbrev pub Keyed : Record → Buffers → List ℕ → Number → List ℕ → Type 0
+Keyed r d out answer out′ = PutsLine r d false 0 (keyOf r d) out answer out′

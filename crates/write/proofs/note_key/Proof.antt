@@ -11,7 +11,7 @@ same-length : tie.Need-same-length
 same-length c = search needs
 
 returns : tie.Need-returns
-returns c = keyed (c .before .before .write-withheld-text .ensures)
+returns c = keyed _ _ (c .before .before .write-withheld-text .ensures)
 
 pub note-key-spec : {M : Type 1} → statement M
 note-key-spec = tie.close (tie.spec write-withheld-text-requires same-length returns)

@@ -1,7 +1,8 @@
 -- `write::write_partial_annotation_text` meets its contract. Assumes nothing.
-use Rattle.sentence.specs.Reading.{partial}
+use mathlib.Core.Path.{refl}
 use Rattle.sheet.proofs.Look.{checked}
-use Rattle.write.proofs.Laws.{write-13, write-12, write-room, write-line}
+use Rattle.write_items.proofs.Room.{short-none}
+use Rattle.write.proofs.Laws.{put-13, put-12, put-line}
 use borrow.Author.Needs.{needs}
 use Rattle.write.proofs.write_partial_annotation_text.Statement.{statement}
 use Rattle.write.proofs.write_partial_annotation_text.Tie as tie
@@ -13,7 +14,7 @@ no-sheet-requires : tie.Need-no-sheet-requires
 no-sheet-requires c κs = search needs
 
 returns : tie.Need-returns
-returns c = write-13 partial _ _ _ _ (c .before .before .check .ensures) (c .before .if1 .taken) (c .no-sheet .ensures)
+returns c = put-13 _ _ _ _ _ _ _ (c .before .before .check .ensures) (c .before .if1 .taken) (c .no-sheet .ensures)
 
 partial-short-requires : tie.Need-partial-short-requires
 partial-short-requires c κs = checked _ _ _ (c .before .check .ensures) (c .if1 .left)
@@ -22,16 +23,16 @@ too-short-requires : tie.Need-too-short-requires
 too-short-requires c κs = search needs
 
 returns-2 : tie.Need-returns-2
-returns-2 c = write-12 partial _ _ _ _ (c .before .before .before .before .check .ensures) (c .before .before .before .if1 .left) _ (c .before .before .partial-short .ensures) (c .before .if2 .taken) (c .too-short .ensures)
+returns-2 c = put-12 _ _ _ _ _ _ _ (c .before .before .before .before .check .ensures) (c .before .before .before .if1 .left) refl _ (c .before .before .partial-short .ensures) (c .before .if2 .taken) (c .too-short .ensures)
 
 partial-into-requires : tie.Need-partial-into-requires
-partial-into-requires c κs = write-room partial _ _ (c .before .before .before .before .before .before .before .before .before .before .before .before .before .before .args .out .now) _ (c .before .before .before .before .check .ensures) (c .before .before .before .if1 .left) _ (c .before .before .partial-short .ensures) (c .before .if2 .left)
+partial-into-requires c κs = (checked _ _ _ (c .before .before .before .before .check .ensures) (c .before .before .before .if1 .left), short-none _ _ (c .before .before .partial-short .ensures) (c .before .if2 .left))
 
 same-length : tie.Need-same-length
 same-length c = search needs
 
 returns-3 : tie.Need-returns-3
-returns-3 c = write-line partial _ _ _ _ (c .before .before .before .before .before .before .before .check .ensures) (c .before .before .before .before .before .before .if1 .left) _ (c .before .before .before .before .before .partial-short .ensures) (c .before .before .before .before .if2 .left) (c .before .before .partial-into .ensures)
+returns-3 c = put-line _ _ _ _ _ _ _ (c .before .before .before .before .before .before .before .check .ensures) (c .before .before .before .before .before .before .if1 .left) refl _ (c .before .before .before .before .before .partial-short .ensures) (c .before .before .before .before .if2 .left) (c .before .before .partial-into .ensures)
 
 pub write-partial-annotation-text-spec : {M : Type 1} → statement M
 write-partial-annotation-text-spec =

@@ -1,6 +1,7 @@
 -- `write::write_withheld_text` meets its contract. Assumes nothing.
 use Rattle.sheet.proofs.Look.{checked}
-use Rattle.write.proofs.Withheld.{withhold-13, withhold-14, withhold-asks, withhold-12, withhold-room, withhold-line}
+use Rattle.write.proofs.Laws.{put-13}
+use Rattle.write.proofs.Withheld.{withhold-14, withhold-asks, withhold-12, withhold-room, withhold-line}
 use borrow.Author.Needs.{needs}
 use Rattle.write.proofs.write_withheld_text.Statement.{statement}
 use Rattle.write.proofs.write_withheld_text.Tie as tie
@@ -12,7 +13,7 @@ no-sheet-requires : tie.Need-no-sheet-requires
 no-sheet-requires c κs = search needs
 
 returns : tie.Need-returns
-returns c = withhold-13 _ _ _ _ _ _ (c .before .before .check .ensures) (c .before .if1 .taken) (c .no-sheet .ensures)
+returns c = put-13 _ _ _ _ _ _ _ (c .before .before .check .ensures) (c .before .if1 .taken) (c .no-sheet .ensures)
 
 no-range-requires : tie.Need-no-range-requires
 no-range-requires c κs = search needs
