@@ -10,13 +10,14 @@ use Rattle.sentence.proofs.Keys.{key-copy}
 use Rattle.sheet.specs.declared.Record.{Record}
 use Rattle.sheet.specs.declared.Number.{Number}
 use Rattle.sheet.specs.Layout.{Buffers, spell}
-use Rattle.write.specs.Answers.{noRange, Withholds, Keyed}
+use Rattle.write.specs.Answers.{lineOrder, noRange, Withholds, Keyed}
 use Rattle.write.proofs.Laws.{first-unseen}
 use Rattle.write.proofs.Withheld.{is-range}
 
 -- an empty range of the sentence's withholds nothing
 module _ (r : Record) (d : Buffers) (b : ℕ) (h : b ≤ count (spell r d)) where
   pub copy-key : {out out′ : List ℕ} {a : Number} → Withholds r d b b out a out′ ↔ Keyed r d out a out′
+  unfolding lineOrder
   copy-key =
       let i : noRange b b (count (spell r d)) ≡ false = is-range (omega arith) h in
       rw (i, key-copy b (spell r d)) (λ w. first-unseen r d b 0 w, λ w. first-unseen r d 0 b w)
