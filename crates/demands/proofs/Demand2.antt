@@ -44,6 +44,7 @@ use Rattle.tokens.specs.declared.Next.{Next}
 use Rattle.tokens.specs.declared.Next.the-variants as next
 use Rattle.tokens.specs.Steps.{spanOf, stepOf, nextOf, listOrder, countOf, Listed}
 use Rattle.write.specs.Answers.{lineOrder, Written}
+use Rattle.write.proofs.Laws as write
 use Rattle.demands.specs.Demand2.{Lies, Taken, Writes, Spells, Tells, Demand2}
 use Rattle.demands.specs.Demand2 as says
 
@@ -94,12 +95,7 @@ refused-by f x n p d e a i w = w .answer-is ∙ rw i
 
 writes : (f : Form) (r : Record) (d : Buffers) (s : Sentence) (out out′ : List ℕ) (a : Number) → Holds r d s → needed f s ≤ length out
     → Written f r d out a out′ → (a ≡ number.Is (needed f s)) × (out′ ≡ over (written f s) out)
-unfolding lineOrder verdict if_then_else_
-writes f r d s out out′ a h k w =
-    let g = holds-is r d s h in
-    let z = spelled r d s h in
-    let l = le-ltb (length out) (needed f s) k in
-    (w .answer-is ∙ rw (g, z, l), w .out-is ∙ rw (g, z, l))
+writes f r d s out out′ a h k w = let z = spelled r d s h in rw (← z) (write.puts-once w (write.serves r d false 0 (rw z h) refl (rw z k)))
 
 writes-any : (f : Form) → Annotated f → (r : Record) (d : Buffers) (out out′ : List ℕ) (a : Number) → Written f r d out a out′ → Writes f r d out a out′
 unfolding lineOrder verdict if_then_else_

@@ -45,7 +45,7 @@ use Rattle.convert_buffers.specs.declared.Converted.the-variants as converted
 use Rattle.convert_buffers.specs.Between.{writes, refuses, formOf, overfull, between, answerOf, outputOf, Converts}
 use Rattle.convert.specs.Convert.{unknownForms, outOfRange, conversion}
 use Rattle.demands.specs.Demand2.{Taken}
-use Rattle.demands.specs.Padded.{Puts, ToldOf, listedOf, PaddedTable}
+use Rattle.demands.specs.Padded.{ToldOf, listedOf, PaddedTable}
 use Rattle.demands.proofs.Demand2.{demand-2}
 use Rattle.demands.proofs.Demand3.{demand-3, own-back}
 
@@ -108,10 +108,10 @@ told r d t g z = record {
   next-token = λ p a e. e ∙ rw (g, z);
   token-list = λ l l′ a w.
       let e = length-map (tokensFrom (marks t) 0) spanOf in
-      record { answer-is = w .answer-is ∙ rw (g, z, e); list-is = w .list-is ∙ rw (g, z, e) };
-  line = λ f out out′ a w. record { answer-is = w .answer-is ∙ rw (g, z); list-is = w .out-is ∙ rw (g, z) };
-  copy = λ b c out out′ a n w. record { answer-is = w .answer-is ∙ rw (g, z, n); list-is = w .out-is ∙ rw (g, z, n) };
-  note-key = λ out out′ a w. record { answer-is = w .answer-is ∙ rw (g, z); list-is = w .out-is ∙ rw (g, z) };
+      record { answer-is = w .answer-is ∙ rw (g, z, e); out-is = w .list-is ∙ rw (g, z, e) };
+  line = λ f out out′ a w. record { answer-is = w .answer-is ∙ rw (g, z); out-is = w .out-is ∙ rw (g, z) };
+  copy = λ b c out out′ a n w. record { answer-is = w .answer-is ∙ rw (g, z, n); out-is = w .out-is ∙ rw (g, z, n) };
+  note-key = λ out out′ a w. record { answer-is = w .answer-is ∙ rw (g, z); out-is = w .out-is ∙ rw (g, z) };
 }
 
 same-answers : (r : Record) (d : Buffers) (s : Sentence) (w e g : List ℕ) → Holds r d s → Lists s w e g → ToldOf r d (listedOf r d s w e g)

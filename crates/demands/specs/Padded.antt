@@ -12,8 +12,7 @@ use Rattle.sentence.specs.Sentence.{Sentence, marks, rows, count, table, listed
 use Rattle.sentence.specs.Reading.{Form, partial, sentence, read}
 use Rattle.sentence.specs.Writing.{tokensFrom, nextToken, written, key}
 use Rattle.sentence.specs.Withheld.{withheld}
-use Rattle.sentence.specs.declared.Refusal.{Refusal}
-use Rattle.sentence.specs.Refusals.{refusal, check, verdict}
+use Rattle.sentence.specs.Refusals.{refusal, check}
 use Rattle.sheet.specs.declared.Record.{Record}
 use Rattle.sheet.specs.declared.Answer.{Answer}
 use Rattle.sheet.specs.declared.Answer.the-variants as answer
@@ -30,16 +29,15 @@ use Rattle.tokens.specs.declared.Token.{Token}
 use Rattle.tokens.specs.declared.Next.{Next}
 use Rattle.tokens.specs.declared.Next.the-variants as next
 use Rattle.tokens.specs.Steps.{spanOf, stepOf, nextOf, Listed}
-use Rattle.write.specs.Answers.{Written, noRange, Withholds, Keyed}
+use Rattle.write.specs.Answers.{Puts, Written, noRange, Withholds, Keyed}
 use Rattle.convert_buffers.specs.declared.Converted.{Converted}
 use Rattle.convert_buffers.specs.declared.Converted.the-variants as converted
 use Rattle.convert_buffers.specs.Between.{formOf, Converts}
 use Rattle.convert.specs.Convert.{unknownForms, outOfRange, conversion}
 
 -- what a call does that has w to put at the front of a list: 12 at its length where there is less room, else all of it
-pub record Puts {A : Type 0} (w l : List A) (a : Number) (l′ : List A) : Type 0 where
-  pub answer-is : a ≡ verdict number.Refused (check (ltb (length l) (length w)) 12 (length w) ∷ []) (number.Is (length w))
-  pub list-is : l′ ≡ verdict (λ (q : Refusal). l) (check (ltb (length l) (length w)) 12 (length w) ∷ []) (over w l)
+abbrev pub Fills : {A : Type 0} → List A → List A → Number → List A → Type 0
+Fills w l a l′ = Puts (λ n. n) (check (ltb (length l) (length w)) 12 (length w) ∷ []) w l a l′
 
 -- each answer of a look-up, a token call or a writer on the record r and the buffers d is told of the sentence t
 pub record ToldOf (r : Record) (d : Buffers) (t : Sentence) : Type 0 where
@@ -49,11 +47,11 @@ pub record ToldOf (r : Record) (d : Buffers) (t : Sentence) : Type 0 where
   pub tag : (row column : ℕ) (a : Slice) → a ≡ tagAt (isSheet r d) (spell r d) row column → a ≡ tagAt true t row column
   pub surface : (b e : ℕ) (a : Slice) → a ≡ surfaceAt (isSheet r d) (spell r d) b e → a ≡ surfaceAt true t b e
   pub next-token : (p : ℕ) (a : Next) → a ≡ nextOf r d p → a ≡ next.Is (stepOf (nextToken (marks t) (count t) p))
-  pub token-list : (l l′ : List Token) (a : Number) → Listed r d l a l′ → Puts (map spanOf (tokensFrom (marks t) 0)) l a l′
-  pub line : (f : Form) (out out′ : List ℕ) (a : Number) → Written f r d out a out′ → Puts (written f t) out a out′
+  pub token-list : (l l′ : List Token) (a : Number) → Listed r d l a l′ → Fills (map spanOf (tokensFrom (marks t) 0)) l a l′
+  pub line : (f : Form) (out out′ : List ℕ) (a : Number) → Written f r d out a out′ → Fills (written f t) out a out′
   pub copy : (b e : ℕ) (out out′ : List ℕ) (a : Number) → noRange b e (count t) ≡ false → Withholds r d b e out a out′
-      → Puts (written partial (withheld b e t)) out a out′
-  pub note-key : (out out′ : List ℕ) (a : Number) → Keyed r d out a out′ → Puts (key t) out a out′
+      → Fills (written partial (withheld b e t)) out a out′
+  pub note-key : (out out′ : List ℕ) (a : Number) → Keyed r d out a out′ → Fills (key t) out a out′
 
 -- the sentence that listed rows spell beside the text and the boundaries of a sheet
 abbrev pub listedOf : Record → Buffers → Sentence → List ℕ → List ℕ → List ℕ → Sentence

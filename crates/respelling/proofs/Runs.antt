@@ -70,12 +70,13 @@ owes-read {x} {w} a p f o = record {
   rest = λ e. absurd (false≢true e);
 }
 
+-- what was written, what is due and the rest, where n bytes more are written
+pub more-written : (w due rest : List ℕ) (n : ℕ) → w ++ (due ++ rest) ≡ (w ++ take n due) ++ (drop n due ++ rest)
+more-written w due rest n = sym (append-assoc w (take n due) _ ∙ ap (λ l. w ++ l) (sym (append-assoc (take n due) (drop n due) _) ∙ rw take-append-drop))
+
 owes-write : {x w : List ℕ} (a : State) (n : ℕ) → Owes x w a → Owes x (w ++ take n (a .due)) (writes n a)
 unfolding writes
-owes-write {x} {w} a n o = record {
-  whole = λ y e. o .whole y e ∙ sym (append-assoc w (take n (a .due)) _ ∙ ap (λ l. w ++ l) (sym (append-assoc (take n (a .due)) (drop n (a .due)) _) ∙ rw take-append-drop));
-  rest = o .rest;
-}
+owes-write {x} {w} a n o = record { whole = λ y e. o .whole y e ∙ more-written w (a .due) _ n; rest = o .rest }
 
 owes-fail : {x w : List ℕ} (a : State) → Owes x w a → Owes x w (fails a)
 unfolding fails

@@ -15,7 +15,7 @@ use Rattle.respelling.specs.Run.{State, begins, reads, writes, fails, is
 use Rattle.respelling.specs.Run as run
 use Rattle.respelling.proofs.Lines.{len-feed, len-byte, lines-feed, lines-byte}
 use Rattle.respelling.proofs.Pieces.{turn-waits, open-front}
-use Rattle.respelling.proofs.Runs.{Owes, owes, none-due, neither}
+use Rattle.respelling.proofs.Runs.{Owes, owes, none-due, neither, more-written}
 
 -- ---- the bytes up to the last LF
 whole-fed : (b : ℕ) (s : List ℕ) → fed (b ∷ s) ≡ true → whole (b ∷ s) ≡ b ∷ whole s
@@ -155,11 +155,7 @@ only-read {x} {w} a p f o n = record { so-far = λ _. on (fed p) refl }
 
 only-write : {x w : List ℕ} (a : State) (n : ℕ) → Only x w a → Only x (w ++ take n (a .due)) (writes n a)
 unfolding writes
-only-write {x} {w} a n o = record {
-  so-far = λ f.
-      o .so-far f
-      ∙ sym (append-assoc w (take n (a .due)) _ ∙ ap (λ l. w ++ l) (sym (append-assoc (take n (a .due)) (drop n (a .due)) _) ∙ rw take-append-drop));
-}
+only-write {x} {w} a n o = record { so-far = λ f. o .so-far f ∙ more-written w (a .due) _ n }
 
 only-fail : {x w : List ℕ} (a : State) → Only x w a → Only x w (fails a)
 unfolding fails

@@ -50,7 +50,7 @@ module _ (r : Record) (d : Buffers) (outside : Bool) (first : ℕ) (w out : List
           record { answer-is = rw (← e, h, o, t) (ap Is (v .length-is)); out-is = rw (← e, h, o, t) (v .out-is) }
 
 -- ---- two outcomes of one call are equal
-pub puts-once : {A : Type 0} {tell : Number → A} {checks : List Check} {w out : List ℕ} {a a′ : A} {o o′ : List ℕ}
+pub puts-once : {A B : Type 0} {tell : Number → A} {checks : List Check} {w out : List B} {a a′ : A} {o o′ : List B}
     → Puts tell checks w out a o → Puts tell checks w out a′ o′ → (a ≡ a′) × (o ≡ o′)
 puts-once p q = (cc, cc)
 

@@ -19,7 +19,7 @@ use Rattle.sheet.specs.Layout.{Buffers, spell}
 use Rattle.sheet.specs.Check.{isSheet}
 
 -- the answer, as told, and the output after it: the line w over its front, or the first of these refusals, which alters nothing
-pub record Puts {A : Type 0} (tell : Number → A) (checks : List Check) (w out : List ℕ) (answer : A) (out′ : List ℕ) : Type 0 where
+pub record Puts {A B : Type 0} (tell : Number → A) (checks : List Check) (w out : List B) (answer : A) (out′ : List B) : Type 0 where
   pub answer-is : answer ≡ tell (verdict Refused checks (Is (length w)))
   pub out-is : out′ ≡ verdict (λ e. out) checks (over w out)
 
