@@ -12,11 +12,13 @@ use Rattle.utf8.specs.Utf8.{scalars, validPrefix}
 use Rattle.utf8.proofs.Codec.{valid-within}
 use Rattle.sentence.specs.declared.Refusal.{Refusal}
 use Rattle.sentence.specs.Sentence.{Sentence}
-use Rattle.sentence.specs.Reading.{Form, State, at, start, Run, whole, stopped, run, Rest, over, next, Parsed, parsed, gather, Result, sentence, refused, built, placed, read}
+use Rattle.sentence.specs.declared.Form.{Form}
+use Rattle.sentence.specs.Forms.{formOf}
+use Rattle.sentence.specs.Reading.{State, at, start, Run, whole, stopped, run, Rest, over, next, Parsed, parsed, gather, Result, sentence, refused, built, placed, read}
 use Rattle.sentence.specs.Writing.{written}
 use Rattle.sentence.specs.Refusals.{refusal, verdict, hostOrder}
 use Rattle.sentence.proofs.Shape.{read-formed}
-use Rattle.convert_buffers.specs.Between.{Outcome, writes, refuses, formOf, overfull, between, answerOf, Converts}
+use Rattle.convert_buffers.specs.Between.{Outcome, writes, refuses, overfull, between, answerOf, Converts}
 use Rattle.convert.specs.Convert.{unknownForms, outOfRange, conversion, codeOf}
 use Rattle.convert_buffers.specs.declared.Converted.{Converted}
 use Rattle.convert_buffers.specs.declared.Converted.the-variants.{Wrote, Refused}

@@ -9,7 +9,9 @@ use Rattle.laws.specs.All.{All}
 use Rattle.utf8.specs.Utf8.{width, size}
 use Rattle.utf8.proofs.Codec.{width-small, size-append, length-encodes}
 use Rattle.sentence.specs.Sentence.{Tag, Mark, Cells, final, cell, Sentence, textOf, marksOf, rowsOf, text, marks, rows, pad, cut, rowBytes, tagBytes, Row, CellsOf, Formed}
-use Rattle.sentence.specs.Reading.{Form, raw, tokenized, partial, Kind, mark, slash, back, plain, kind}
+use Rattle.sentence.specs.declared.Form.{Form}
+use Rattle.sentence.specs.declared.Form.the-variants.{Raw as raw, Tokenized as tokenized, Partial as partial}
+use Rattle.sentence.specs.Reading.{Kind, mark, slash, back, plain, kind}
 use Rattle.sentence.specs.Writing.{Token, token, tokensFrom, surface, escapeAs, escape, writeTags, writeToken, joined, sign, shown, writePartial, line, written}
 use Rattle.sentence.proofs.Shape.{cut-bytes}
 use Rattle.sentence.proofs.Trips.{Shows, pad-shows, shown-shows}

@@ -5,7 +5,7 @@ use native.Mathlib.Nat.{zero-add}
 use mathlib.Core.Path.{_≡_, refl, sym, ap, _∙_}
 use mathlib.Core.Bool.{Bool, true, false, _||_, false≢true}
 use mathlib.Core.List.{List, _++_}
-use borrow.Author.Tests.{ltb-false, eq-eqb}
+use borrow.Author.Tests.{ltb-false}
 use lib.Dec.{eqb, ltb}
 use lib.ListN.{length, take, drop, length-drop, take-append-drop}
 use Rattle.laws.specs.If.{if_then_else_}
@@ -13,10 +13,13 @@ use Rattle.laws.specs.Put.{over}
 use Rattle.laws.proofs.Tail.{lent, back}
 use Rattle.sentence.specs.declared.Refusal.{Refusal}
 use Rattle.sentence.specs.Sentence.{Sentence}
-use Rattle.sentence.specs.Reading.{Form, Result, sentence, refused, read}
+use Rattle.sentence.specs.declared.Form.{Form}
+use Rattle.sentence.specs.Forms.{formOf}
+use Rattle.sentence.specs.Reading.{Annotated, Result, sentence, refused, read}
 use Rattle.sentence.specs.Writing.{written}
 use Rattle.sentence.specs.Refusals.{refusal, verdict, hostOrder}
-use Rattle.convert_buffers.specs.Between.{Outcome, writes, refuses, formOf, overfull, between, answerOf, outputOf, Converts}
+use Rattle.sentence.proofs.Forms.{is-annotated}
+use Rattle.convert_buffers.specs.Between.{Outcome, writes, refuses, overfull, between, answerOf, outputOf, Converts}
 use Rattle.convert.specs.Convert.{unknownForms, outOfRange, conversion}
 use Rattle.convert_buffers.specs.declared.Converted.{Converted}
 use Rattle.convert_buffers.specs.declared.Converted.the-variants.{Wrote, Refused}
@@ -70,9 +73,12 @@ neither : (p q : Bool) → (p || q) ≡ false → (p ≡ false) × (q ≡ false)
 neither true q e = absurd (false≢true (sym e))
 neither false q e = (refl, e)
 
-pub annotated : (reader writer : ℕ) {b : Bool} → b ≡ unknownForms reader writer → b ≡ false → writer ≡ 0 → ⊥
+-- a form to write is annotated
+pub annotated : (reader writer : ℕ) {b : Bool} {g : Form} → b ≡ unknownForms reader writer → b ≡ false → g ≡ formOf writer → Annotated g
 unfolding unknownForms
-annotated reader writer e t z = false≢true (sym ((neither (ltb 2 reader) (eqb writer 0) ((neither (ltb 2 reader || eqb writer 0) (ltb 2 writer) (sym e ∙ t)) .0)) .1) ∙ eq-eqb writer 0 z)
+annotated reader writer e t j =
+    let known = (neither (ltb 2 reader) (eqb writer 0) ((neither (ltb 2 reader || eqb writer 0) (ltb 2 writer) (sym e ∙ t)) .0)) .1 in
+    rw j (is-annotated writer known)
 
 pub in-range : (size at : ℕ) {d : Bool} → d ≡ outOfRange size at → d ≡ false → at ≤ size
 unfolding outOfRange
@@ -80,14 +86,14 @@ in-range size at f u = ltb-false _ _ ((neither (ltb 1048576 size) (ltb size at) 
 
 -- ---- the part behind the place
 module _ (reader writer : ℕ) (x out : List ℕ) (at : ℕ) {b d : Bool} (e : b ≡ unknownForms reader writer) (f : d ≡ outOfRange (length out) at)
-    (t : b ≡ false) (u : d ≡ false) {r : Converted} {end : List ℕ}
-    (p : Plain (between false false (formOf reader) (formOf writer) (length (take (length out - at) (drop at out))) x) 0 (take (length out - at) (drop at out)) r end) where
+    (t : b ≡ false) (u : d ≡ false) {v w : Form} (i : v ≡ formOf reader) (j : w ≡ formOf writer) {r : Converted} {end : List ℕ}
+    (p : Plain (between false false v w (length (take (length out - at) (drop at out))) x) 0 (take (length out - at) (drop at out)) r end) where
   into : Outcome
   into = between false false (formOf reader) (formOf writer) (length out - at) x
 
   tail : Plain into 0 (drop at out) r end
   unfolding into
-  tail = rw (lent out at (in-range (length out) at f u), length-drop at out) at p
+  tail = rw (i, j, lent out at (in-range (length out) at f u), length-drop at out) at p
 
   -- the whole output, with what the callee left in the part
   whole : List ℕ

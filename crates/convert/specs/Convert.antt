@@ -3,7 +3,8 @@ use Prim.Native.Nat.{ℕ, _+_, _-_, _*_, _^_}
 use mathlib.Core.Bool.{Bool, _||_}
 use mathlib.Core.List.{List}
 use lib.Dec.{eqb, ltb}
-use Rattle.convert_buffers.specs.Between.{Outcome, formOf, between}
+use Rattle.sentence.specs.Forms.{formOf}
+use Rattle.convert_buffers.specs.Between.{Outcome, between}
 use Rattle.convert_buffers.specs.declared.Converted.{Converted}
 use Rattle.convert_buffers.specs.declared.Converted.the-variants.{Wrote, Refused}
 

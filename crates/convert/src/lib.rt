@@ -1,5 +1,6 @@
 // The conversion of a line from one form to another, for programs and for the host.
 use convert_buffers::Converted;
+use sentence::Form;
 use sentence::Refusal;
 ghost use mathlib.Core.Path.{_≡_};
 ghost use lib.ListN.{length};
@@ -40,7 +41,9 @@ pub fn convert(reader: u32, writer: u32, line: &[u8], out: &mut [u8], at: usize)
             place: 0,
         });
     }
-    match convert_buffers::unchecked::between(reader, writer, line, &mut out[at..]) {
+    let from = Form::of(reader);
+    let to = Form::of(writer);
+    match convert_buffers::unchecked::between(from, to, line, &mut out[at..]) {
         Converted::Wrote(n) => Converted::Wrote(at + n),
         Converted::Refused(r) => Converted::Refused(r),
     }

@@ -10,7 +10,8 @@ use lib.ListN.{length}
 use Rattle.laws.specs.If.{if_then_else_, if-cases}
 use Rattle.sentence.specs.declared.Refusal.{Refusal}
 use Rattle.sentence.specs.Sentence.{Sentence}
-use Rattle.sentence.specs.Reading.{Form, Result, sentence, refused, read}
+use Rattle.sentence.specs.declared.Form.{Form}
+use Rattle.sentence.specs.Reading.{Result, sentence, refused, read}
 use Rattle.sentence.specs.Writing.{written}
 use Rattle.sentence.specs.Refusals.{refusal, verdict, hostOrder}
 use Rattle.convert_buffers.specs.Between.{Outcome, writes, refuses, overfull, between, answerOf, outputOf, Converts}

@@ -10,7 +10,8 @@ use lib.ListN.{length}
 use Rattle.laws.specs.If.{if_then_else_}
 use Rattle.sentence.specs.declared.Refusal.{Refusal}
 use Rattle.sentence.specs.Sentence.{Sentence}
-use Rattle.sentence.specs.Reading.{Form, Result, sentence, refused, read}
+use Rattle.sentence.specs.declared.Form.{Form}
+use Rattle.sentence.specs.Reading.{Result, sentence, refused, read}
 use Rattle.sentence.specs.Refusals.{refusal, verdict, hostOrder}
 use Rattle.sheet.specs.Layout.{Buffers, Same, recordOf, spell}
 use Rattle.sheet.specs.declared.Record.{Record}
@@ -60,7 +61,7 @@ module _ (f g : Form) (room : ℕ) (x : List ℕ) {r : Record} (p : Scanned (rea
       rw (between-serves f g room x (t .value) (t .was-read) (not-full (t .value) (t .record-is) (p .few)))
       (rw (spelled r b (t .value) (fill-holds f x p w h t)) at q)
 
--- ---- what the scan says; the form may go by two names
+-- ---- what the scan says
 module _ (f : Form) (x : List ℕ) {a : Answer} (e : a ≡ scanned (read f x)) where
   pub scanned-few : {r : Record} → a ≡ answer.Sentence r → r .cells ≤ 2048 → Scanned (read f x) r
   scanned-few h k = record { record-is = sym h ∙ e; few = k }
@@ -73,27 +74,22 @@ module _ (f : Form) (x : List ℕ) {a : Answer} (e : a ≡ scanned (read f x)) w
       on true k = let y : a ≡ answer.Refused (refusal 1 4096) = rw k at e in let z : _≡_ {A = ℕ} 0 1 = cc in absurd (omega arith)
       on false k = ltb-false 4096 (length x) k
 
-  pub passed-full : (h g : Form) (room : ℕ) {out : List ℕ} → f ≡ h → {r : Record} → a ≡ answer.Sentence r → 2048 < r .cells
-      → Passes (between false false h g room x) out (Refused (refusal 11 0)) out
+  pub passed-full : (g : Form) (room : ℕ) {out : List ℕ} {r : Record} → a ≡ answer.Sentence r → 2048 < r .cells
+      → Passes (between false false f g room x) out (Refused (refusal 11 0)) out
   unfolding answerOf outputOf
-  passed-full h g room i {r} j k =
+  passed-full g room {r} j k =
       let t = found (read f x) (sym j ∙ e) in
-      rw (← i) (rw (between-full f g room x (t .value) (t .was-read) (is-full (t .value) (t .record-is) k)) (record { answer = refl; output = refl }))
+      rw (between-full f g room x (t .value) (t .was-read) (is-full (t .value) (t .record-is) k)) (record { answer = refl; output = refl })
 
-  pub passed-refused : (h g : Form) (room : ℕ) {out : List ℕ} → f ≡ h → {q : Refusal} → a ≡ answer.Refused q
-      → Passes (between false false h g room x) out (Refused q) out
+  pub passed-refused : (g : Form) (room : ℕ) {out : List ℕ} {q : Refusal} → a ≡ answer.Refused q → Passes (between false false f g room x) out (Refused q) out
   unfolding scanned answerOf outputOf
-  passed-refused h g room {out} i {q} j = rw (← i) (on (read f x) refl)
+  passed-refused g room {out} {q} j = on (read f x) refl
     where
       on : (y : Result) → read f x ≡ y → Passes (between false false f g room x) out (Refused q) out
       on (sentence s) k = let z : _≡_ {A = ℕ} 0 1 = cc (rw k at e) in absurd (omega arith)
       on (refused n l) k =
           let y : q ≡ refusal n l = cc (rw k at e) in
           rw (between-refuses f g room x n l k) (record { answer = ap Refused y; output = refl })
-
-pub passed-named : (f h g : Form) (room : ℕ) (x : List ℕ) {c : Converted} {out end : List ℕ} → f ≡ h
-    → Passes (between false false f g room x) out c end → Passes (between false false h g room x) out c end
-passed-named f h g room x i p = rw i at p
 
 -- two tests that are both true
 first-true : (p q : Bool) → (p && q) ≡ true → p ≡ true

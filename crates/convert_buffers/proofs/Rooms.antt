@@ -8,7 +8,8 @@ use lib.ListN.{length}
 use Rattle.utf8.specs.Utf8.{size}
 use Rattle.utf8.proofs.Codec.{width-small}
 use Rattle.sentence.specs.Sentence.{Sentence, text}
-use Rattle.sentence.specs.Reading.{Form, Result, sentence, refused, read}
+use Rattle.sentence.specs.declared.Form.{Form}
+use Rattle.sentence.specs.Reading.{Result, sentence, refused, read}
 use Rattle.sentence.proofs.Shape.{read-formed, read-light}
 use Rattle.sheet.specs.Layout.{Buffers, Same, recordOf, roomFor, Holds, Sheet}
 use Rattle.sheet.specs.declared.Record.{Record}

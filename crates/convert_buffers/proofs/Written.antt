@@ -11,10 +11,12 @@ use Rattle.write_escape.specs.Wrote.{Lined}
 use Rattle.write_items.specs.Items.{shortOf}
 use Rattle.write_items.proofs.Room.{short-none, short-some}
 use Rattle.sentence.specs.Sentence.{Sentence}
-use Rattle.sentence.specs.Reading.{Form, raw, tokenized, partial}
+use Rattle.sentence.specs.declared.Form.{Form}
+use Rattle.sentence.specs.declared.Form.the-variants.{Raw as raw, Tokenized as tokenized, Partial as partial}
+use Rattle.sentence.specs.Reading.{Annotated}
 use Rattle.sentence.specs.Writing.{written}
 use Rattle.sentence.specs.Refusals.{refusal, verdict}
-use Rattle.convert_buffers.specs.Between.{Outcome, writes, refuses, formOf, answerOf, outputOf, Converts}
+use Rattle.convert_buffers.specs.Between.{Outcome, writes, refuses, answerOf, outputOf, Converts}
 use Rattle.convert_buffers.specs.Through.{writing}
 use Rattle.convert_buffers.specs.declared.Converted.{Converted}
 use Rattle.convert_buffers.specs.declared.Converted.the-variants.{Wrote, Refused}
@@ -36,19 +38,11 @@ module _ (g : Form) (s : Sentence) (out : List ℕ) {n : ℕ} (e : n ≡ shortOf
       rw (if-false _ _ _ (le-ltb (length out) (length (written g s)) (writing-room h)))
       (record { answer = ap Wrote (l .length-is ∙ sym (zero-add _)); output = l .out-is })
 
--- ---- the form of a number
-pub is-partial : (n : ℕ) → (n ≡ 0 → ⊥) → (n ≡ 1 → ⊥) → partial ≡ formOf n
-unfolding formOf
-is-partial zero a b = absurd (a refl)
-is-partial (suc zero) a b = absurd (b refl)
-is-partial (suc (suc n)) a b = refl
+-- ---- the form by its name; raw is none of the two
+module _ (writer : Form) (s : Sentence) {out end : List ℕ} {r : Converted} where
+  pub as-raw : Annotated writer → writer ≡ raw → Converts (λ (c : Converted). c) (writing writer (length out) s) 0 out r end
+  as-raw a e = absurd (rw e at a)
 
-module _ (writer : ℕ) (s : Sentence) {out end : List ℕ} {r : Converted} where
-  pub as-tokenized : writer ≡ 1
-      → Converts (λ (c : Converted). c) (writing tokenized (length out) s) 0 out r end → Converts (λ (c : Converted). c) (writing (formOf writer) (length out) s) 0 out r end
-  unfolding formOf
-  as-tokenized e p = rw e p
-
-  pub as-partial : (writer ≡ 0 → ⊥) → (writer ≡ 1 → ⊥)
-      → Converts (λ (c : Converted). c) (writing partial (length out) s) 0 out r end → Converts (λ (c : Converted). c) (writing (formOf writer) (length out) s) 0 out r end
-  as-partial a b p = rw (is-partial writer a b) at p
+  pub as-named : {g : Form} → writer ≡ g
+      → Converts (λ (c : Converted). c) (writing g (length out) s) 0 out r end → Converts (λ (c : Converted). c) (writing writer (length out) s) 0 out r end
+  as-named e p = rw e p

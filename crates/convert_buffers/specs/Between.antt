@@ -1,5 +1,5 @@
 -- A line passed from one form to another: what comes of it, what is answered, and the output after it.
-use Prim.Native.Nat.{ℕ, zero, suc, _+_, _*_}
+use Prim.Native.Nat.{ℕ, _+_, _*_}
 use mathlib.Core.Path.{_≡_}
 use mathlib.Core.Bool.{Bool}
 use mathlib.Core.List.{List, _++_}
@@ -8,17 +8,12 @@ use lib.ListN.{length, take, drop}
 use Rattle.laws.specs.Put.{over}
 use Rattle.sentence.specs.declared.Refusal.{Refusal}
 use Rattle.sentence.specs.Sentence.{Sentence, count}
-use Rattle.sentence.specs.Reading.{Form, raw, tokenized, partial, read}
+use Rattle.sentence.specs.declared.Form.{Form}
+use Rattle.sentence.specs.Reading.{read}
 use Rattle.sentence.specs.Writing.{written}
 use Rattle.sentence.specs.Refusals.{hostOrder}
 use Rattle.convert_buffers.specs.declared.Converted.{Converted}
 use Rattle.convert_buffers.specs.declared.Converted.the-variants.{Wrote, Refused}
-
--- the forms by number: 0 raw, 1 tokenized, 2 partial
-unfoldable pub formOf : ℕ → Form
-formOf zero = raw
-formOf (suc zero) = tokenized
-formOf (suc (suc n)) = partial
 
 -- what a conversion gives: the written line, or a refusal
 pub data Outcome : Type 0 where

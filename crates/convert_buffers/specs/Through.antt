@@ -5,7 +5,8 @@ use mathlib.Core.List.{[], _∷_}
 use lib.Dec.{ltb}
 use lib.ListN.{length}
 use Rattle.sentence.specs.Sentence.{Sentence}
-use Rattle.sentence.specs.Reading.{Form, Result}
+use Rattle.sentence.specs.declared.Form.{Form}
+use Rattle.sentence.specs.Reading.{Result}
 use Rattle.sentence.specs.Writing.{written}
 use Rattle.sentence.specs.Refusals.{check, verdict}
 use Rattle.sheet.specs.Eight.{Eight, eight, Each}

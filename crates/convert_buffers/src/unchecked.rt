@@ -4,7 +4,7 @@ mod writing;
 
 use crate::Converted;
 use crate::unchecked::through::through;
-use read_state::Form;
+use sentence::Form;
 use sentence::Refusal;
 use sheet::Answer;
 use sheet::Record;
@@ -12,30 +12,16 @@ ghost use mathlib.Core.Path.{_≡_};
 ghost use Prim.Native.Nat.{_≤_};
 ghost use mathlib.Core.Bool.{false};
 ghost use lib.ListN.{length};
-ghost use Rattle.sentence.specs.Reading.{read};
-ghost use Rattle.read_state.specs.Flags as flags;
-ghost use Rattle.convert_buffers.specs.Between.{formOf, Converts};
+ghost use Rattle.sentence.specs.Reading.{Annotated, read};
+ghost use Rattle.convert_buffers.specs.Between.{Converts};
 ghost use Rattle.convert_buffers.specs.Between.{between as Between·between};
 ghost use Rattle.convert_buffers.specs.Through.{Scanned};
 
-// The form of a number.
-fn form_of(reader: u32) -> Form
-    ensures { λ r. ⌜ flags.formOf r ≡ formOf reader ⌝ }
-{
-    if reader == 0 {
-        return Form::Raw;
-    }
-    if reader == 1 {
-        return Form::Tokenized;
-    }
-    Form::Partial
-}
-
 // A line of at most 256 bytes and 256 cells, so that few zeros are stored for it.
-fn short(form: Form, writer: u32, r: Record, line: &[u8], out: &mut [u8]) -> Converted
-    requires { ⌜ (writer ≡ 0 → ⊥) × Scanned (read (flags.formOf form) (now line)) r × (length (now line) ≤ 256) × (r .cells ≤ 256) ⌝ }
+fn short(reader: Form, writer: Form, r: Record, line: &[u8], out: &mut [u8]) -> Converted
+    requires { ⌜ Annotated writer × Scanned (read reader (now line)) r × (length (now line) ≤ 256) × (r .cells ≤ 256) ⌝ }
     ensures { λ a. ⌜ Converts (λ (c : Converted). c)
-        (Between·between false false (flags.formOf form) (formOf writer) (length (now (out .entry))) (now (line .entry))) 0 (now (out .entry)) a
+        (Between·between false false reader writer (length (now (out .entry))) (now (line .entry))) 0 (now (out .entry)) a
         (now (out .exit)) ⌝ }
 {
     let mut text = [0u8; 256];
@@ -47,7 +33,7 @@ fn short(form: Form, writer: u32, r: Record, line: &[u8], out: &mut [u8]) -> Con
     let mut cell_lengths = [0u16; 256];
     let mut tag_bytes = [0u8; 256];
     through(
-        form,
+        reader,
         writer,
         r,
         line,
@@ -64,10 +50,10 @@ fn short(form: Form, writer: u32, r: Record, line: &[u8], out: &mut [u8]) -> Con
 }
 
 // A line of at most 512 bytes and 512 cells.
-fn middle(form: Form, writer: u32, r: Record, line: &[u8], out: &mut [u8]) -> Converted
-    requires { ⌜ (writer ≡ 0 → ⊥) × Scanned (read (flags.formOf form) (now line)) r × (length (now line) ≤ 512) × (r .cells ≤ 512) ⌝ }
+fn middle(reader: Form, writer: Form, r: Record, line: &[u8], out: &mut [u8]) -> Converted
+    requires { ⌜ Annotated writer × Scanned (read reader (now line)) r × (length (now line) ≤ 512) × (r .cells ≤ 512) ⌝ }
     ensures { λ a. ⌜ Converts (λ (c : Converted). c)
-        (Between·between false false (flags.formOf form) (formOf writer) (length (now (out .entry))) (now (line .entry))) 0 (now (out .entry)) a
+        (Between·between false false reader writer (length (now (out .entry))) (now (line .entry))) 0 (now (out .entry)) a
         (now (out .exit)) ⌝ }
 {
     let mut text = [0u8; 512];
@@ -79,7 +65,7 @@ fn middle(form: Form, writer: u32, r: Record, line: &[u8], out: &mut [u8]) -> Co
     let mut cell_lengths = [0u16; 512];
     let mut tag_bytes = [0u8; 512];
     through(
-        form,
+        reader,
         writer,
         r,
         line,
@@ -96,10 +82,10 @@ fn middle(form: Form, writer: u32, r: Record, line: &[u8], out: &mut [u8]) -> Co
 }
 
 // A line of at most 4,096 bytes and 2,048 cells.
-fn long(form: Form, writer: u32, r: Record, line: &[u8], out: &mut [u8]) -> Converted
-    requires { ⌜ (writer ≡ 0 → ⊥) × Scanned (read (flags.formOf form) (now line)) r × (length (now line) ≤ 4096) ⌝ }
+fn long(reader: Form, writer: Form, r: Record, line: &[u8], out: &mut [u8]) -> Converted
+    requires { ⌜ Annotated writer × Scanned (read reader (now line)) r × (length (now line) ≤ 4096) ⌝ }
     ensures { λ a. ⌜ Converts (λ (c : Converted). c)
-        (Between·between false false (flags.formOf form) (formOf writer) (length (now (out .entry))) (now (line .entry))) 0 (now (out .entry)) a
+        (Between·between false false reader writer (length (now (out .entry))) (now (line .entry))) 0 (now (out .entry)) a
         (now (out .exit)) ⌝ }
 {
     let mut text = [0u8; 4096];
@@ -111,7 +97,7 @@ fn long(form: Form, writer: u32, r: Record, line: &[u8], out: &mut [u8]) -> Conv
     let mut cell_lengths = [0u16; 2048];
     let mut tag_bytes = [0u8; 4096];
     through(
-        form,
+        reader,
         writer,
         r,
         line,
@@ -128,14 +114,13 @@ fn long(form: Form, writer: u32, r: Record, line: &[u8], out: &mut [u8]) -> Conv
 }
 
 // A line of any length. It is scanned first: what refuses it is handed on, and its length and its cells say which room it takes.
-pub fn between(reader: u32, writer: u32, line: &[u8], out: &mut [u8]) -> Converted
-    requires { ⌜ (writer ≡ 0 → ⊥) ⌝ }
+pub fn between(reader: Form, writer: Form, line: &[u8], out: &mut [u8]) -> Converted
+    requires { ⌜ Annotated writer ⌝ }
     ensures { λ r. ⌜ Converts (λ (c : Converted). c)
-        (Between·between false false (formOf reader) (formOf writer) (length (now (out .entry))) (now (line .entry))) 0 (now (out .entry)) r
+        (Between·between false false reader writer (length (now (out .entry))) (now (line .entry))) 0 (now (out .entry)) r
         (now (out .exit)) ⌝ }
 {
-    let form = form_of(reader);
-    match read_scan::scan(form, line) {
+    match read_scan::scan(reader, line) {
         Answer::Sentence(r) => {
             if 2048 < r.cells {
                 return Converted::Refused(Refusal {
@@ -144,12 +129,12 @@ pub fn between(reader: u32, writer: u32, line: &[u8], out: &mut [u8]) -> Convert
                 });
             }
             if (line.len() <= 256) & (r.cells <= 256) {
-                return short(form, writer, r, line, out);
+                return short(reader, writer, r, line, out);
             }
             if (line.len() <= 512) & (r.cells <= 512) {
-                return middle(form, writer, r, line, out);
+                return middle(reader, writer, r, line, out);
             }
-            long(form, writer, r, line, out)
+            long(reader, writer, r, line, out)
         }
         Answer::Refused(f) => Converted::Refused(f),
     }

@@ -7,7 +7,8 @@ use lib.ListN.{length, replicate, length-replicate}
 use lib.Seq.{take-append-seam}
 use Rattle.laws.specs.Put.{over}
 use Rattle.sentence.specs.Sentence.{Sentence}
-use Rattle.sentence.specs.Reading.{Form, sentence, read}
+use Rattle.sentence.specs.declared.Form.{Form}
+use Rattle.sentence.specs.Reading.{sentence, read}
 use Rattle.sheet.specs.declared.Record.{Record}
 use Rattle.sheet.specs.declared.Number.the-variants as number
 use Rattle.sheet.specs.Layout.{Buffers, Holds}

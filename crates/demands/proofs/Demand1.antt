@@ -22,7 +22,10 @@ use Rattle.types.specs.declared.ranges.Row.{Row}
 use Rattle.types.specs.TypeOf.{find, ranges, typeOf}
 use Rattle.sentence.specs.declared.Refusal.{Refusal}
 use Rattle.sentence.specs.Sentence.{Mark, word, Sentence}
-use Rattle.sentence.specs.Reading.{Form, raw, tokenized, partial, Kind, mark, slash, back, plain, kind, Place, start, behind, inTag, gap, State, at, escaped, Act, skip, letter, opens, ofTag, Step, go, stop, ordinary, inside, opening, step, advance, Run, whole, stopped, unfinished, ending, finish, push, follow, run, over, next, Parsed, parsed, add, gather, Result, sentence, refused, built, placed, read}
+use Rattle.sentence.specs.Reading.{Kind, mark, slash, back, plain, kind, Place, start, behind, inTag, gap, State, at, escaped, Act, skip, letter, opens, ofTag, Step, go, stop, ordinary, inside, opening, step, advance, Run, whole, stopped, unfinished, ending, finish, push, follow, run, over, next, Parsed, parsed, add, gather, Result, sentence, refused, built, placed, read}
+use Rattle.sentence.specs.declared.Form.{Form}
+use Rattle.sentence.specs.declared.Form.the-variants.{Raw as raw, Tokenized as tokenized, Partial as partial}
+use Rattle.sentence.specs.Forms.{formOf}
 use Rattle.sentence.specs.Writing.{written, blank}
 use Rattle.sentence.specs.Refusals.{refusal, Check, check, verdict, sheetOrder, readerOrder, updateOrder, hostOrder}
 use Rattle.sheet.specs.declared.Record.{Record}
@@ -48,7 +51,7 @@ use Rattle.tokens.specs.declared.Token.{Token}
 use Rattle.tokens.specs.Steps.{spanOf, tokensOf, nextOf, listOrder, countOf, Listed}
 use Rattle.write.specs.Answers.{Puts, lineOrder, lineOf}
 use Rattle.convert_buffers.specs.declared.Converted.{Converted}
-use Rattle.convert_buffers.specs.Between.{Outcome, writes, formOf, between, overfull, answerOf, outputOf, Converts}
+use Rattle.convert_buffers.specs.Between.{Outcome, writes, between, overfull, answerOf, outputOf, Converts}
 use Rattle.convert_buffers.specs.Between.{refuses as no-line}
 use Rattle.convert.specs.Convert.{unknownForms, outOfRange, conversion, codeOf}
 use Rattle.exports.specs.Exports.{noReader, readFirst, readCode, readNumbers, hostAnswer, hostLeaves, HostReads, hostWriteOrder, numberCode, HostWrites, nearest, spanned, stepCode, stepSpan, HostSteps}

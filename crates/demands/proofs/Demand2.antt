@@ -15,7 +15,8 @@ use Rattle.types.specs.TypeOf.{find, ranges, typeOf, sorted}
 use Rattle.types.specs.Blocks.{Right}
 use Rattle.types.proofs.Laws.{typed}
 use Rattle.sentence.specs.Sentence.{Tag, none, code, Sentence, marks, rows, table, count}
-use Rattle.sentence.specs.Reading.{Form, Annotated, Result, sentence, refused, read}
+use Rattle.sentence.specs.declared.Form.{Form}
+use Rattle.sentence.specs.Reading.{Annotated, Result, sentence, refused, read}
 use Rattle.sentence.specs.Writing.{tokensFrom, nextToken, surface, written, needed, blank}
 use Rattle.sentence.specs.declared.Refusal.{Refusal}
 use Rattle.sentence.specs.Refusals.{refusal, verdict, readerOrder, updateOrder}

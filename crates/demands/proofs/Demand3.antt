@@ -13,7 +13,10 @@ use Rattle.laws.specs.If.{if_then_else_}
 use Rattle.laws.specs.Put.{over}
 use Rattle.laws.proofs.Facts.{reads}
 use Rattle.sentence.specs.Sentence.{Sentence, count, Agree, Formed}
-use Rattle.sentence.specs.Reading.{Form, Annotated, tokenized, partial, Result, sentence, refused, read}
+use Rattle.sentence.specs.declared.Form.{Form}
+use Rattle.sentence.specs.declared.Form.the-variants.{Tokenized as tokenized, Partial as partial}
+use Rattle.sentence.specs.Forms.{formOf}
+use Rattle.sentence.specs.Reading.{Annotated, Result, sentence, refused, read}
 use Rattle.sentence.specs.Writing.{written, needed, setBoundary, resetTags, scored}
 use Rattle.sentence.specs.Refusals.{verdict, readerOrder, hostOrder}
 use Rattle.sentence.proofs.Shape.{read-formed}
@@ -37,7 +40,7 @@ use Rattle.write.specs.Answers.{lineOf, Written}
 use Rattle.write.proofs.Laws.{front, serves}
 use Rattle.convert_buffers.specs.declared.Converted.{Converted}
 use Rattle.convert_buffers.specs.declared.Converted.the-variants as converted
-use Rattle.convert_buffers.specs.Between.{Outcome, writes, refuses, formOf, between, overfull, answerOf, outputOf, Converts}
+use Rattle.convert_buffers.specs.Between.{Outcome, writes, refuses, between, overfull, answerOf, outputOf, Converts}
 use Rattle.convert.specs.Convert.{unknownForms, outOfRange, conversion}
 use Rattle.demands.proofs.Calls.{given}
 use Rattle.demands.proofs.Demand2.{demand-2}

@@ -6,7 +6,9 @@ use mathlib.Core.Bool.{false}
 use mathlib.Core.List.{List}
 use lib.ListN.{length}
 use Rattle.sentence.specs.Sentence.{Sentence, Formed}
-use Rattle.sentence.specs.Reading.{Form, partial, sentence, read}
+use Rattle.sentence.specs.declared.Form.{Form}
+use Rattle.sentence.specs.declared.Form.the-variants.{Partial as partial}
+use Rattle.sentence.specs.Reading.{sentence, read}
 use Rattle.sentence.specs.Writing.{written, key}
 use Rattle.sentence.specs.Withheld.{trimmed, SameNote}
 use Rattle.sentence.proofs.Withheld.{absent-past, present-last}

@@ -14,7 +14,10 @@ use Rattle.laws.specs.Put.{over}
 use Rattle.utf8.specs.Utf8.{size}
 use Rattle.utf8.proofs.Codec.{width-small}
 use Rattle.sentence.specs.Sentence.{Tag, Sentence, marks, rows, count, table, listed, rowBytes, Formed}
-use Rattle.sentence.specs.Reading.{Form, raw, tokenized, partial, Annotated, Result, sentence, refused, read}
+use Rattle.sentence.specs.declared.Form.{Form}
+use Rattle.sentence.specs.declared.Form.the-variants.{Raw as raw, Tokenized as tokenized, Partial as partial}
+use Rattle.sentence.specs.Forms.{formOf}
+use Rattle.sentence.specs.Reading.{Annotated, Result, sentence, refused, read}
 use Rattle.sentence.specs.Writing.{tokensFrom, nextToken, written, key}
 use Rattle.sentence.specs.Withheld.{withheld}
 use Rattle.sentence.specs.Refusals.{refusal, verdict, hostOrder}
@@ -42,7 +45,7 @@ use Rattle.tokens.specs.Steps.{spanOf, nextOf, listOrder, countOf, Listed}
 use Rattle.write.specs.Answers.{lineOrder}
 use Rattle.convert_buffers.specs.declared.Converted.{Converted}
 use Rattle.convert_buffers.specs.declared.Converted.the-variants as converted
-use Rattle.convert_buffers.specs.Between.{writes, refuses, formOf, overfull, between, answerOf, outputOf, Converts}
+use Rattle.convert_buffers.specs.Between.{writes, refuses, overfull, between, answerOf, outputOf, Converts}
 use Rattle.convert.specs.Convert.{unknownForms, outOfRange, conversion}
 use Rattle.demands.specs.Demand2.{Taken}
 use Rattle.demands.specs.Padded.{ToldOf, listedOf, PaddedTable}

@@ -7,7 +7,8 @@ use mathlib.Core.List.{List}
 use native.Mathlib.Omega.{arith}
 use lib.ListN.{length}
 use Rattle.sentence.specs.Sentence.{Sentence, text, count, Formed}
-use Rattle.sentence.specs.Reading.{partial, sentence, read}
+use Rattle.sentence.specs.declared.Form.the-variants.{Partial as partial}
+use Rattle.sentence.specs.Reading.{sentence, read}
 use Rattle.sentence.specs.Writing.{written}
 use Rattle.sentence.specs.Withheld.{inRange, touches, withheld, Outside, Copy}
 use Rattle.sentence.proofs.Demand3.{same-read}

@@ -15,7 +15,10 @@ use Rattle.utf8.specs.declared.Decoded.the-variants as decoded
 use Rattle.utf8.specs.Utf8.{scalar, decodeAt, validPrefix}
 use Rattle.types.specs.TypeOf.{typeOf}
 use Rattle.sentence.specs.declared.Refusal.{Refusal}
-use Rattle.sentence.specs.Reading.{Form, raw, tokenized, partial, Result, sentence, refused, read}
+use Rattle.sentence.specs.declared.Form.{Form}
+use Rattle.sentence.specs.declared.Form.the-variants.{Raw as raw, Tokenized as tokenized, Partial as partial}
+use Rattle.sentence.specs.Forms.{formOf}
+use Rattle.sentence.specs.Reading.{Result, sentence, refused, read}
 use Rattle.sentence.specs.Writing.{needed, blank}
 use Rattle.sheet.specs.declared.Record.{Record}
 use Rattle.sheet.specs.declared.Answer.{Answer}
@@ -38,7 +41,7 @@ use Rattle.tokens.specs.Steps.{tokensOf, nextOf, Listed}
 use Rattle.write.specs.Answers.{lineOf, Written, copyOf, Withholds, keyOf, Keyed}
 use Rattle.convert_buffers.specs.declared.Converted.{Converted}
 use Rattle.convert_buffers.specs.declared.Converted.the-variants as converted
-use Rattle.convert_buffers.specs.Between.{formOf, overfull, Converts}
+use Rattle.convert_buffers.specs.Between.{overfull, Converts}
 use Rattle.convert.specs.Convert.{conversion, codeOf}
 use Rattle.exports.specs.Exports.{readCode, HostReads, numberCode, HostWrites, nearest, HostWithholds, HostKeys, stepCode, HostSteps}
 use Rattle.respelling.specs.Respell.{respell, whole}

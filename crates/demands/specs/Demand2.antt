@@ -12,7 +12,8 @@ use Rattle.utf8.specs.Utf8.{scalar, scalars, encodes, size, validPrefix}
 use Rattle.types.specs.TypeOf.{find, ranges, typeOf, ascending}
 use Rattle.types.specs.Blocks.{Right}
 use Rattle.sentence.specs.Sentence.{Tag, none, code, Sentence, text, marks, rows, count, table, charPositions, bytePositions}
-use Rattle.sentence.specs.Reading.{Form, Annotated, sentence, refused, read}
+use Rattle.sentence.specs.declared.Form.{Form}
+use Rattle.sentence.specs.Reading.{Annotated, sentence, refused, read}
 use Rattle.sentence.specs.Writing.{tokensFrom, nextToken, surface, written, needed, blank}
 use Rattle.sentence.specs.declared.Refusal.{Refusal}
 use Rattle.sentence.specs.Refusals.{refusal}

@@ -8,7 +8,10 @@ use lib.IntN.{ℤ}
 use lib.ListN.{length, take, drop}
 use Rattle.laws.specs.Put.{over}
 use Rattle.sentence.specs.Sentence.{Sentence, count, Agree, NoUnknown, NoneInside}
-use Rattle.sentence.specs.Reading.{Form, Annotated, tokenized, partial, sentence, read}
+use Rattle.sentence.specs.declared.Form.{Form}
+use Rattle.sentence.specs.declared.Form.the-variants.{Tokenized as tokenized, Partial as partial}
+use Rattle.sentence.specs.Forms.{formOf}
+use Rattle.sentence.specs.Reading.{Annotated, sentence, read}
 use Rattle.sentence.specs.Writing.{written, setBoundary, resetTags, scored}
 use Rattle.sheet.specs.declared.Record.{Record}
 use Rattle.sheet.specs.declared.Answer.{Answer}
@@ -20,7 +23,7 @@ use Rattle.read_load.specs.Load.{ReadDoes}
 use Rattle.write.specs.Answers.{Written}
 use Rattle.convert_buffers.specs.declared.Converted.{Converted}
 use Rattle.convert_buffers.specs.declared.Converted.the-variants as converted
-use Rattle.convert_buffers.specs.Between.{formOf, Converts}
+use Rattle.convert_buffers.specs.Between.{Converts}
 use Rattle.convert.specs.Convert.{conversion}
 use Rattle.demands.specs.Calls.{Gives}
 

@@ -5,7 +5,9 @@ use mathlib.Core.Logic.{_↔_}
 use mathlib.Core.List.{List, []}
 use lib.ListN.{length}
 use Rattle.sentence.specs.Sentence.{Sentence, count}
-use Rattle.sentence.specs.Reading.{Form, partial, sentence, read}
+use Rattle.sentence.specs.declared.Form.{Form}
+use Rattle.sentence.specs.declared.Form.the-variants.{Partial as partial}
+use Rattle.sentence.specs.Reading.{sentence, read}
 use Rattle.sentence.specs.Writing.{written}
 use Rattle.sentence.specs.Withheld.{trimmed, tagIn, SameNote}
 use Rattle.sheet.specs.declared.Record.{Record}

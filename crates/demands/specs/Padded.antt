@@ -9,7 +9,10 @@ use lib.ListN.{length, take, drop, getD}
 use Rattle.laws.specs.Put.{over}
 use Rattle.utf8.specs.Utf8.{size}
 use Rattle.sentence.specs.Sentence.{Sentence, marks, rows, count, table, listed, rowBytes, Formed}
-use Rattle.sentence.specs.Reading.{Form, partial, sentence, read}
+use Rattle.sentence.specs.declared.Form.{Form}
+use Rattle.sentence.specs.declared.Form.the-variants.{Partial as partial}
+use Rattle.sentence.specs.Forms.{formOf}
+use Rattle.sentence.specs.Reading.{sentence, read}
 use Rattle.sentence.specs.Writing.{tokensFrom, nextToken, written, key}
 use Rattle.sentence.specs.Withheld.{withheld}
 use Rattle.sentence.specs.Refusals.{refusal, check}
@@ -32,7 +35,7 @@ use Rattle.tokens.specs.Steps.{spanOf, stepOf, nextOf, Listed}
 use Rattle.write.specs.Answers.{Puts, Written, noRange, Withholds, Keyed}
 use Rattle.convert_buffers.specs.declared.Converted.{Converted}
 use Rattle.convert_buffers.specs.declared.Converted.the-variants as converted
-use Rattle.convert_buffers.specs.Between.{formOf, Converts}
+use Rattle.convert_buffers.specs.Between.{Converts}
 use Rattle.convert.specs.Convert.{unknownForms, outOfRange, conversion}
 
 -- what a call does that has w to put at the front of a list: 12 at its length where there is less room, else all of it

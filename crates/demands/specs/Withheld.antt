@@ -7,7 +7,8 @@ use mathlib.Core.List.{List, []}
 use lib.ListN.{length, getD}
 use Rattle.utf8.specs.Utf8.{encodes}
 use Rattle.sentence.specs.Sentence.{none, unknown, Sentence, text, marks, count, Formed}
-use Rattle.sentence.specs.Reading.{raw, partial, sentence, read}
+use Rattle.sentence.specs.declared.Form.the-variants.{Raw as raw, Partial as partial}
+use Rattle.sentence.specs.Reading.{sentence, read}
 use Rattle.sentence.specs.Writing.{written}
 use Rattle.sentence.specs.Withheld.{inRange, trimmed, withheld, tagIn, Outside, Copy}
 use Rattle.sheet.specs.declared.Record.{Record}

@@ -10,7 +10,10 @@ use lib.ListN.{length}
 use Rattle.laws.specs.If.{if_then_else_, if-true, if-cases}
 use Rattle.sentence.specs.declared.Refusal.{Refusal}
 use Rattle.sentence.specs.Sentence.{Sentence}
-use Rattle.sentence.specs.Reading.{Form, partial, Result, sentence, refused, read}
+use Rattle.sentence.specs.declared.Form.{Form}
+use Rattle.sentence.specs.declared.Form.the-variants.{Partial as partial}
+use Rattle.sentence.specs.Forms.{formOf}
+use Rattle.sentence.specs.Reading.{Result, sentence, refused, read}
 use Rattle.sentence.specs.Withheld.{trimmed, withheld}
 use Rattle.sentence.specs.Refusals.{refusal, verdict, readerOrder, hostOrder}
 use Rattle.sentence.proofs.Withheld.{formed-trimmed}
@@ -29,7 +32,7 @@ use Rattle.write.specs.Answers.{lineOrder, PutsLine, lineOf, Written, copyOf, k
 use Rattle.tokens.specs.Steps.{nextOf}
 use Rattle.tokens.specs.declared.Next.{Next}
 use Rattle.tokens.specs.declared.Next.the-variants as next
-use Rattle.convert_buffers.specs.Between.{Outcome, refuses, formOf, between, answerOf, outputOf}
+use Rattle.convert_buffers.specs.Between.{Outcome, refuses, between, answerOf, outputOf}
 use Rattle.convert_buffers.specs.declared.Converted.the-variants as converted
 use Rattle.convert.specs.Convert.{unknownForms, outOfRange, conversion}
 use Rattle.convert.proofs.Lengths.{written-small}

@@ -5,14 +5,18 @@ use mathlib.Core.Path.{_≡_, refl, sym, ap, _∙_}
 use mathlib.Core.Bool.{Bool, true, false, not, _||_, false≢true}
 use mathlib.Core.List.{List, [], _∷_}
 use borrow.Author.Tests.{lt-ltb, le-ltb, eq-eqb, not-false}
-use lib.Dec.{ltb}
+use lib.Dec.{eqb, ltb}
 use lib.ListN.{length, set}
 use Rattle.laws.specs.If.{if_then_else_}
 use Rattle.laws.specs.Put.{over, put-front}
 use Rattle.sentence.specs.declared.Refusal.{Refusal}
 use Rattle.sentence.specs.Sentence.{count}
-use Rattle.sentence.specs.Reading.{Form, tokenized, partial, read}
+use Rattle.sentence.specs.declared.Form.{Form}
+use Rattle.sentence.specs.declared.Form.the-variants.{Raw as raw}
+use Rattle.sentence.specs.Forms.{formOf}
+use Rattle.sentence.specs.Reading.{Annotated, read}
 use Rattle.sentence.specs.Refusals.{refusal, verdict, sheetOrder}
+use Rattle.sentence.proofs.Forms.{is-annotated}
 use Rattle.sheet.specs.Layout.{Buffers, spell}
 use Rattle.sheet.specs.Check.{isSheet}
 use Rattle.sheet.proofs.Exact.{is-sheet}
@@ -30,8 +34,6 @@ use Rattle.tokens.specs.declared.Step.{Step}
 use Rattle.tokens.specs.declared.Step.the-variants.{Serves, Done}
 use Rattle.tokens.specs.declared.Next.{Next}
 use Rattle.tokens.specs.declared.Next.the-variants as next
-use Rattle.convert_buffers.specs.Between.{formOf}
-use Rattle.convert_buffers.proofs.Written.{is-partial}
 use Rattle.exports.proofs.Places.{nearest-length}
 use Rattle.exports.specs.Exports.{refusalCode, noReader, numbersOf, readFirst, readCode, readNumbers, ReadTold, hostAnswer, hostLeaves, HostReads, noWriter, hostWriteOrder, numberCode, HostWrites, nearest, nearestIn, HostWithholds, HostKeys, spanned, stepCode, stepSpan, Tells, HostSteps}
 
@@ -80,23 +82,30 @@ pub told-number : {a : Number} {q : Refusal} {c : ℕ} → a ≡ number.Refused 
 unfolding numberCode
 told-number e i = rw e i
 
-module _ (f : ℕ) (r : Record) (d : Buffers) {out out′ : List ℕ} {a : Number} where
-  pub as-tokenized : f ≡ 1 → Written tokenized r d out a out′ → Written (formOf f) r d out a out′
-  unfolding formOf
-  as-tokenized e w = rw e w
+module _ (f : Form) (r : Record) (d : Buffers) {out out′ : List ℕ} {a : Number} where
+  pub as-raw : Annotated f → f ≡ raw → Written f r d out a out′
+  as-raw w e = absurd (rw e at w)
 
-  pub as-partial : noWriter f ≡ false → (f ≡ 1 → ⊥) → Written partial r d out a out′ → Written (formOf f) r d out a out′
-  unfolding noWriter
-  as-partial h e w = rw (is-partial f (λ z. false≢true (sym h ∙ ap (λ b. b || ltb 2 f) (eq-eqb f 0 z))) e) at w
+  pub as-named : {g : Form} → f ≡ g → Written g r d out a out′ → Written f r d out a out′
+  as-named e w = rw e w
+
+-- a form to write is annotated
+pub annotated : (f : ℕ) {b : Bool} {g : Form} → b ≡ noWriter f → b ≡ false → g ≡ formOf f → Annotated g
+unfolding noWriter
+annotated f i h j = rw j (is-annotated f (first-false (eqb f 0) (ltb 2 f) (sym i ∙ h)))
+  where
+    first-false : (p q : Bool) → (p || q) ≡ false → p ≡ false
+    first-false true q e = absurd (false≢true (sym e))
+    first-false false q e = refl
 
 module _ (f : ℕ) (r : Record) (d : Buffers) (out : List ℕ) {b : Bool} (i : b ≡ noWriter f) where
   pub writes-16 : {c : ℕ} → b ≡ true → c ≡ refusalCode (refusal 16 0) → HostWrites f r d out c out
   unfolding hostWriteOrder numberCode verdict if_then_else_
   writes-16 h q = record { answer-is = rw (sym i ∙ h) q; out-is = rw (sym i ∙ h) }
 
-  pub writes-on : {a : Number} {c : ℕ} {out′ : List ℕ} → b ≡ false → Written (formOf f) r d out a out′ → c ≡ numberCode a → HostWrites f r d out c out′
+  pub writes-on : {g : Form} {a : Number} {c : ℕ} {out′ : List ℕ} → b ≡ false → g ≡ formOf f → Written g r d out a out′ → c ≡ numberCode a → HostWrites f r d out c out′
   unfolding hostWriteOrder verdict if_then_else_
-  writes-on h w q = record { answer-is = rw (sym i ∙ h) (q ∙ ap numberCode (w .answer-is)); out-is = rw (sym i ∙ h) (w .out-is) }
+  writes-on h j w q = record { answer-is = rw (sym i ∙ h, ← j) (q ∙ ap numberCode (w .answer-is)); out-is = rw (sym i ∙ h, ← j) (w .out-is) }
 
 -- ---- the withheld copy
 pub brought-length : {a : Number} {n : ℕ} → a ≡ number.Is n → number.Is n ≡ nearestIn a

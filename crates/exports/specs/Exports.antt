@@ -8,6 +8,7 @@ use lib.ListN.{length}
 use Rattle.laws.specs.If.{if_then_else_}
 use Rattle.laws.specs.Put.{over}
 use Rattle.sentence.specs.Sentence.{count}
+use Rattle.sentence.specs.Forms.{formOf}
 use Rattle.sentence.specs.Reading.{read}
 use Rattle.sentence.specs.Refusals.{refusal, Check, check, verdict}
 use Rattle.sentence.specs.declared.Refusal.{Refusal}
@@ -24,7 +25,6 @@ use Rattle.tokens.specs.declared.Step.{Step}
 use Rattle.tokens.specs.declared.Step.the-variants.{Serves, Done}
 use Rattle.tokens.specs.declared.Next.{Next}
 use Rattle.tokens.specs.declared.Next.the-variants as next
-use Rattle.convert_buffers.specs.Between.{formOf}
 use Rattle.convert_buffers.specs.declared.Converted.the-variants as converted
 use Rattle.convert.specs.Convert.{codeOf}
 

@@ -1,6 +1,6 @@
 // The host's calls besides the conversion: a line read into lent buffers, a sheet written, its withheld copy, its key, a step of the token cursor. Each
 // answers one number; a refusal is 2^63 plus 256 times its place plus its number.
-use read_state::Form;
+use sentence::Form;
 use sentence::Refusal;
 use sheet::Answer;
 use sheet::Number;
@@ -8,14 +8,12 @@ use sheet::Record;
 use tokens::Next;
 use tokens::Step;
 ghost use mathlib.Core.Path.{_≡_};
-ghost use mathlib.Core.Bool.{false};
 ghost use Prim.Native.Nat.{_≤_};
 ghost use lib.ListN.{length};
 ghost use Rattle.laws.specs.Put.{over};
+ghost use Rattle.sentence.specs.Reading.{Annotated};
 ghost use Rattle.sheet.specs.Layout.{lentAfter, lentBefore};
-ghost use Rattle.read_state.specs.Flags as flags;
 ghost use Rattle.tokens.specs.declared.Next.the-variants.{Is};
-ghost use Rattle.convert_buffers.specs.Between.{formOf};
 ghost use Rattle.write.specs.Answers.{Written};
 ghost use Rattle.exports.specs.Exports.{refusalCode, Near, noReader, numbersOf, ReadTold, NearAnswer, HostReads, recordIn, noWriter, numberCode};
 ghost use Rattle.exports.specs.Exports.{NearNumber, HostWrites, nearest, nearestIn, HostWithholds, HostKeys, Tells, NearNext, HostSteps};
@@ -40,19 +38,6 @@ fn no_writer(form: u32) -> bool
     ensures { λ r. ⌜ r ≡ noWriter form ⌝ }
 {
     (form == 0) | (2 < form)
-}
-
-// The form of a number.
-fn form_of(form: u32) -> Form
-    ensures { λ r. ⌜ flags.formOf r ≡ formOf form ⌝ }
-{
-    if form == 0 {
-        return Form::Raw;
-    }
-    if form == 1 {
-        return Form::Tokenized;
-    }
-    Form::Partial
 }
 
 // Stores what a sentence counts in the first five numbers.
@@ -113,7 +98,7 @@ pub extern "C" fn ighdelmur_read(
         });
     }
     let answer = read_load::load(
-        form_of(form),
+        Form::of(form),
         line,
         text,
         types,
@@ -127,9 +112,9 @@ pub extern "C" fn ighdelmur_read(
     tell_read(answer, numbers)
 }
 
-// Writes a sheet in the form of a number that is 1 or 2.
+// Writes a sheet in one of the two annotated forms.
 fn write_as(
-    form: u32,
+    form: Form,
     r: Record,
     text: &[u8],
     types: &[u8],
@@ -141,12 +126,14 @@ fn write_as(
     tag_bytes: &[u8],
     out: &mut [u8],
 ) -> Number
-    requires { ⌜ noWriter form ≡ false ⌝ }
-    ensures { λ a. ⌜ Written (formOf form) r (lentBefore text types boundaries «char_pos» «byte_pos» «cell_starts» «cell_lengths» «tag_bytes»)
+    requires { ⌜ Annotated form ⌝ }
+    ensures { λ a. ⌜ Written form r (lentBefore text types boundaries «char_pos» «byte_pos» «cell_starts» «cell_lengths» «tag_bytes»)
         (now (out .entry)) a (now (out .exit)) ⌝ }
 {
-    if form == 1 {
-        return write::write_tokenized_text(
+    match form {
+        // it is no form to write, and is refused before
+        Form::Raw => Number::Is(0),
+        Form::Tokenized => write::write_tokenized_text(
             r,
             text,
             types,
@@ -157,20 +144,20 @@ fn write_as(
             cell_lengths,
             tag_bytes,
             out,
-        );
+        ),
+        Form::Partial => write::write_partial_annotation_text(
+            r,
+            text,
+            types,
+            boundaries,
+            char_pos,
+            byte_pos,
+            cell_starts,
+            cell_lengths,
+            tag_bytes,
+            out,
+        ),
     }
-    write::write_partial_annotation_text(
-        r,
-        text,
-        types,
-        boundaries,
-        char_pos,
-        byte_pos,
-        cell_starts,
-        cell_lengths,
-        tag_bytes,
-        out,
-    )
 }
 
 // Tells what a writer answered: the length, or the refusal.
@@ -213,7 +200,7 @@ pub extern "C" fn ighdelmur_write(
         });
     }
     let answer = write_as(
-        form,
+        Form::of(form),
         Record {
             n,
             b,

@@ -5,7 +5,8 @@ use mathlib.Core.Bool.{true, false}
 use mathlib.Core.List.{List}
 use Rattle.laws.specs.If.{if_then_else_}
 use Rattle.sentence.specs.Sentence.{Sentence}
-use Rattle.sentence.specs.Reading.{Form, Result, read}
+use Rattle.sentence.specs.declared.Form.{Form}
+use Rattle.sentence.specs.Reading.{Result, read}
 use Rattle.sentence.specs.Writing.{blank}
 use Rattle.sentence.specs.Refusals.{refusal, verdict, readerOrder, updateOrder}
 use Rattle.sentence.specs.declared.Refusal.{Refusal}

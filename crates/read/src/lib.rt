@@ -1,11 +1,11 @@
 // The readers: a line of each form into eight lent buffers.
-use read_state::Form;
+use sentence::Form;
 use sentence::Refusal;
 use sheet::Answer;
 use sheet::Record;
-ghost use Rattle.sentence.specs.Reading.{raw, tokenized, partial, read};
+ghost use Rattle.sentence.specs.declared.Form.the-variants.{Raw as raw, Tokenized as tokenized, Partial as partial};
+ghost use Rattle.sentence.specs.Reading.{read};
 ghost use Rattle.sheet.specs.Layout.{lentAfter, lentBefore};
-ghost use Rattle.read_state.specs.Flags.{formOf};
 ghost use Rattle.read_load.specs.Load.{ReadDoes};
 ghost use Rattle.read.specs.Read.{UpdateDoes};
 
@@ -22,7 +22,7 @@ fn update(
     cell_lengths: &mut [u16],
     tag_bytes: &mut [u8],
 ) -> Answer
-    ensures { λ r. ⌜ UpdateDoes (read (formOf form) (now (line .entry)))
+    ensures { λ r. ⌜ UpdateDoes (read form (now (line .entry)))
         (lentBefore text types boundaries «char_pos» «byte_pos» «cell_starts» «cell_lengths» «tag_bytes») r
         (lentAfter text types boundaries «char_pos» «byte_pos» «cell_starts» «cell_lengths» «tag_bytes») ⌝ }
 {

@@ -7,7 +7,8 @@ use native.Mathlib.Omega.{arith}
 use lib.ListN.{length}
 use Rattle.utf8.specs.Utf8.{width, size}
 use Rattle.sentence.specs.Sentence.{Tag, Mark, Sentence, rowBytes, tagBytes}
-use Rattle.sentence.specs.Reading.{Form, at, start, Act, skip, letter, opens, ofTag, whole, run, Rest, over, next, Parsed, parsed, before, add, gather, built, sentence}
+use Rattle.sentence.specs.declared.Form.{Form}
+use Rattle.sentence.specs.Reading.{at, start, Act, skip, letter, opens, ofTag, whole, run, Rest, over, next, Parsed, parsed, before, add, gather, built, sentence}
 use Rattle.sentence.proofs.Shape.{cut-bytes}
 use Rattle.sheet.specs.Layout.{recordOf}
 use Rattle.sheet.specs.declared.Record.{Record}

@@ -11,12 +11,13 @@ use Rattle.utf8.specs.Utf8.{width, encode}
 use Rattle.utf8.proofs.Codec.{length-encode, width-small}
 use Rattle.sentence.specs.Sentence.{Tag, Mark, Sentence, code, rows, rowBytes, Formed}
 use Rattle.sentence.specs.Reading as reading
-use Rattle.sentence.specs.Reading.{Form, at, start, Act, skip, letter, opens, ofTag, whole, run, next, Parsed, parsed, gather, built, sentence}
+use Rattle.sentence.specs.Reading.{at, start, Act, skip, letter, opens, ofTag, whole, run, next, Parsed, parsed, gather, built, sentence}
 use Rattle.sheet.specs.Eight.{Which, pick, Every, Each}
 use Rattle.sheet.specs.Layout.{Buffers, buffers, Same, recordOf, roomFor, cellsOf, bytesOf, lay, laid}
 use Rattle.sheet.proofs.Eights.{in-order, every, one, pick-pairwise}
 use Rattle.sheet.proofs.Exact.{has-room}
 use Rattle.sheet.proofs.Held.{fronts-long}
+use Rattle.sentence.specs.declared.Form.{Form}
 use Rattle.read_counts.specs.declared.Counts.{Counts}
 use Rattle.read_counts.specs.Counts.{Small, opened, nothing, bytes, letters, opening, grows, tallyBy, tally}
 use Rattle.read_counts.proofs.Rests.{lettersIn, rowsIn, Fresh, run-fresh}

@@ -14,7 +14,8 @@ use Rattle.utf8.specs.declared.Decoded.the-variants.{Char, Bad, End}
 use Rattle.utf8.proofs.Codec.{encode-decode, valid-within}
 use Rattle.utf8.proofs.Laws.{Passed, len-ok, width-at, char-within, chars-char, passed-char, passed-bad, end-past}
 use Rattle.sentence.specs.Sentence.{Sentence, Formed}
-use Rattle.sentence.specs.Reading.{Form, Place, at, start, behind, inTag, gap, escaped, Act, skip, letter, opens, ofTag, Step, go, stop, advance, Run, whole, stopped, ending, finish, push, follow, run, gather, Result, sentence, refused, built, placed, read}
+use Rattle.sentence.specs.declared.Form.{Form}
+use Rattle.sentence.specs.Reading.{Place, at, start, behind, inTag, gap, escaped, Act, skip, letter, opens, ofTag, Step, go, stop, advance, Run, whole, stopped, ending, finish, push, follow, run, gather, Result, sentence, refused, built, placed, read}
 use Rattle.sentence.specs.Reading as reading
 use Rattle.sentence.proofs.Shape.{ActOf, StepOf, read-formed}
 use Rattle.sheet.specs.Eight.{Each}

@@ -7,7 +7,8 @@ use native.Mathlib.Omega.{arith}
 use borrow.Author.Tests.{not-false}
 use Rattle.laws.specs.If.{if_then_else_}
 use Rattle.sentence.specs.Sentence.{Sentence}
-use Rattle.sentence.specs.Reading.{Form, Result, sentence, refused, read}
+use Rattle.sentence.specs.declared.Form.{Form}
+use Rattle.sentence.specs.Reading.{Result, sentence, refused, read}
 use Rattle.sentence.specs.Refusals.{refusal, verdict, readerOrder}
 use Rattle.sentence.specs.declared.Refusal.{Refusal}
 use Rattle.sentence.proofs.Shape.{read-formed}

@@ -1,12 +1,11 @@
 // One line of any form into eight lent buffers.
 pub mod unchecked; // unchecked.rt: for a record of a sentence
 
-use read_state::Form;
+use sentence::Form;
 use sentence::Refusal;
 use sheet::Answer;
 ghost use Rattle.sentence.specs.Reading.{read};
 ghost use Rattle.sheet.specs.Layout.{lentAfter, lentBefore};
-ghost use Rattle.read_state.specs.Flags.{formOf};
 ghost use Rattle.read_load.specs.Load.{ReadDoes};
 
 // A line of a form: what refuses it is found first, then the room, and only then is anything stored.
@@ -22,7 +21,7 @@ pub fn load(
     cell_lengths: &mut [u16],
     tag_bytes: &mut [u8],
 ) -> Answer
-    ensures { λ r. ⌜ ReadDoes (read (formOf form) (now (line .entry)))
+    ensures { λ r. ⌜ ReadDoes (read form (now (line .entry)))
         (lentBefore text types boundaries «char_pos» «byte_pos» «cell_starts» «cell_lengths» «tag_bytes») r
         (lentAfter text types boundaries «char_pos» «byte_pos» «cell_starts» «cell_lengths» «tag_bytes») ⌝ }
 {

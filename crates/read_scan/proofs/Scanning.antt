@@ -14,7 +14,8 @@ use Rattle.utf8.specs.declared.Decoded.the-variants.{Char, Bad, End}
 use Rattle.utf8.proofs.Laws.{Passed, len-ok, width-at, chars-char, chars-end, passed-char, passed-bad, passed-end, end-past, bad-inside, char-within}
 use Rattle.sentence.specs.Sentence.{Sentence}
 use Rattle.sentence.specs.Reading as reading
-use Rattle.sentence.specs.Reading.{Form, Place, at, escaped, start, behind, inTag, gap, Act, skip, letter, opens, ofTag, go, stop, advance, Run, whole, stopped, ending, finish, push, follow, run, over, next, Parsed, parsed, gather, sentence, built, placed, read}
+use Rattle.sentence.specs.declared.Form.{Form}
+use Rattle.sentence.specs.Reading.{Place, at, escaped, start, behind, inTag, gap, Act, skip, letter, opens, ofTag, go, stop, advance, Run, whole, stopped, ending, finish, push, follow, run, over, next, Parsed, parsed, gather, sentence, built, placed, read}
 use Rattle.sentence.specs.Refusals.{refusal}
 use Rattle.sentence.proofs.Shape.{ActOf, StepOf}
 use Rattle.sheet.specs.Layout.{recordOf}

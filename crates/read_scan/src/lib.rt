@@ -1,8 +1,8 @@
 // One pass over a line: it is tested to be UTF-8, its characters step the reader, and what they do is counted.
 use read_counts::Counts;
 use read_state::Ended;
-use read_state::Form;
 use read_state::State;
+use sentence::Form;
 use sentence::Refusal;
 use sheet::Answer;
 use utf8::Decoded;
@@ -13,7 +13,7 @@ ghost use Rattle.sentence.specs.Refusals.{refusal};
 ghost use Rattle.sentence.specs.Reading.{read, finish};
 ghost use Rattle.sheet.specs.declared.Answer.the-variants.{Refused};
 ghost use Rattle.utf8.specs.Utf8.{validPrefix};
-ghost use Rattle.read_state.specs.Flags.{formOf, stateOf};
+ghost use Rattle.read_state.specs.Flags.{stateOf};
 ghost use Rattle.read_counts.specs.Counts.{Small};
 ghost use Rattle.read_scan.specs.Scan.{scanned, told, orInvalid};
 
@@ -39,7 +39,7 @@ fn stopped(line: &[u8], at: usize, number: u8) -> Answer
 // The line's end, at its length.
 fn finished(form: Form, state: State, counts: Counts, at: usize) -> Answer
     requires { ⌜ Small counts 4096 ⌝ }
-    ensures { λ r. ⌜ r ≡ told at counts (finish (formOf form) (stateOf state)) ⌝ }
+    ensures { λ r. ⌜ r ≡ told at counts (finish form (stateOf state)) ⌝ }
 {
     match state.end(form) {
         Ended::Whole => Answer::Sentence(read_counts::unchecked::total(counts)),
@@ -49,7 +49,7 @@ fn finished(form: Form, state: State, counts: Counts, at: usize) -> Answer
 
 // The record of the sentence that a line reads to, or its refusal.
 pub fn scan(form: Form, line: &[u8]) -> Answer
-    ensures { λ r. ⌜ r ≡ scanned (read (formOf form) (now (line .entry))) ⌝ }
+    ensures { λ r. ⌜ r ≡ scanned (read form (now (line .entry))) ⌝ }
 {
     if 4096 < line.len() {
         return refuse(1, 4096);

@@ -4,7 +4,9 @@ use mathlib.Core.Path.{_≡_, refl}
 use native.Mathlib.Omega.{arith}
 use lib.Dec.{eqb}
 use Rattle.laws.specs.If.{if-both}
-use Rattle.sentence.specs.Reading.{Form, raw, tokenized, partial, Kind, mark, slash, back, plain, Place, start, behind, inTag, gap, State, at, escaped, Step, go, stop, kind, ordinary, inside, opening, step, advance}
+use Rattle.sentence.specs.declared.Form.{Form}
+use Rattle.sentence.specs.declared.Form.the-variants.{Raw as raw, Tokenized as tokenized, Partial as partial}
+use Rattle.sentence.specs.Reading.{Kind, mark, slash, back, plain, Place, start, behind, inTag, gap, State, at, escaped, Step, go, stop, kind, ordinary, inside, opening, step, advance}
 use Rattle.sentence.proofs.Shape.{StepOf, step-of}
 use Rattle.read_state.specs.declared.Stepped.{Stepped}
 use Rattle.read_state.specs.Flags.{stateOf, actOf, stepped}

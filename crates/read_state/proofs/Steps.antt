@@ -7,7 +7,9 @@ use borrow.Author.Tests.{ne-eqb}
 use lib.Dec.{eqb}
 use Rattle.laws.specs.If.{if_then_else_, if-false}
 use Rattle.sentence.specs.Sentence as sentence
-use Rattle.sentence.specs.Reading.{Form, raw, tokenized, partial, Kind, mark, slash, back, plain, Place, start, behind, inTag, gap, at, escaped, skip, opens, go, stop, kind, ordinary, inside, opening, step, advance, whole, ending, finish}
+use Rattle.sentence.specs.declared.Form.{Form}
+use Rattle.sentence.specs.declared.Form.the-variants.{Raw as raw, Tokenized as tokenized, Partial as partial}
+use Rattle.sentence.specs.Reading.{Kind, mark, slash, back, plain, Place, start, behind, inTag, gap, at, escaped, skip, opens, go, stop, kind, ordinary, inside, opening, step, advance, whole, ending, finish}
 use Rattle.read_state.specs.declared.State.{State}
 use Rattle.read_state.specs.declared.Mark.{Mark}
 use Rattle.read_state.specs.declared.Mark.the-variants.{None}

@@ -4,8 +4,8 @@ use mathlib.Core.Bool.{Bool, true, false}
 use Rattle.laws.specs.If.{if_then_else_}
 use Rattle.sentence.specs.Sentence as sentence
 use Rattle.sentence.specs.Reading as reading
-use Rattle.read_state.specs.declared.Form.{Form}
-use Rattle.read_state.specs.declared.Form.the-variants.{Raw, Tokenized, Partial}
+use Rattle.sentence.specs.declared.Form.{Form}
+use Rattle.sentence.specs.declared.Form.the-variants.{Raw, Tokenized, Partial}
 use Rattle.read_state.specs.declared.Mark.{Mark}
 use Rattle.read_state.specs.declared.Mark.the-variants.{None, Word, Unknown}
 use Rattle.read_state.specs.declared.Kind as kinds
@@ -18,11 +18,6 @@ use Rattle.read_state.specs.declared.Stepped.{Stepped}
 use Rattle.read_state.specs.declared.Ended.{Ended}
 use Rattle.read_state.specs.declared.Ended.the-variants.{Whole}
 use Rattle.read_state.specs.declared.Ended as ends
-
-unfoldable pub formOf : Form → reading.Form
-formOf Raw = reading.raw
-formOf Tokenized = reading.tokenized
-formOf Partial = reading.partial
 
 unfoldable pub markOf : Mark → sentence.Mark
 markOf None = sentence.none
@@ -115,7 +110,7 @@ awaits reading.behind = false
 awaits reading.inTag = false
 
 -- a form other than the tokenized one takes the awaited character literally
-unfoldable pub literal : reading.Form → reading.Place → Bool
-literal reading.raw p = awaits p
-literal reading.tokenized p = false
-literal reading.partial p = awaits p
+unfoldable pub literal : Form → reading.Place → Bool
+literal Raw p = awaits p
+literal Tokenized p = false
+literal Partial p = awaits p

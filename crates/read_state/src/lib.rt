@@ -1,19 +1,15 @@
 // The state of a reader, stepped by value over the characters of a line.
 pub mod unchecked;
 
+use sentence::Form;
 ghost use mathlib.Core.Path.{_≡_};
 ghost use mathlib.Core.Bool.{true, false};
 ghost use Rattle.sentence.specs.Sentence.{code};
-ghost use Rattle.sentence.specs.Reading.{tokenized, partial, mark, slash, back, at, escaped, start, behind, inTag, go, stop, letter, kind, ordinary, step};
+ghost use Rattle.sentence.specs.declared.Form.the-variants.{Tokenized as tokenized, Partial as partial};
+ghost use Rattle.sentence.specs.Reading.{mark, slash, back, at, escaped, start, behind, inTag, go, stop, letter, kind, ordinary, step};
 ghost use Rattle.sentence.specs.Reading.{advance, unfinished, finish};
 ghost use Rattle.read_state.specs.declared.Mark.the-variants.{None};
-ghost use Rattle.read_state.specs.Flags.{formOf, markOf, placeOf, stateOf, flags, kindIn, goes, stepped, ended, awaits, literal};
-
-pub enum Form {
-    Raw,
-    Tokenized,
-    Partial,
-}
+ghost use Rattle.read_state.specs.Flags.{markOf, placeOf, stateOf, flags, kindIn, goes, stepped, ended, awaits, literal};
 
 // A boundary between two characters.
 pub enum Mark {
@@ -111,27 +107,25 @@ fn partial_kind(c: u32) -> Kind
     Kind::Plain
 }
 
-impl Form {
-    // What a character means in this form.
-    pub fn kind(self, c: u32) -> Kind
-        ensures { λ r. ⌜ r ≡ kindIn (kind (formOf self) c) ⌝ }
-    {
-        match self {
-            Form::Raw => Kind::Plain,
-            Form::Tokenized => tokenized_kind(c),
-            Form::Partial => partial_kind(c),
-        }
+// What a character means in a form.
+pub fn meaning(form: Form, c: u32) -> Kind
+    ensures { λ r. ⌜ r ≡ kindIn (kind form c) ⌝ }
+{
+    match form {
+        Form::Raw => Kind::Plain,
+        Form::Tokenized => tokenized_kind(c),
+        Form::Partial => partial_kind(c),
     }
+}
 
-    // The number of a line that ends behind a boundary.
-    fn unfinished(self) -> u8
-        ensures { λ r. ⌜ r ≡ unfinished (formOf self) ⌝ }
-    {
-        match self {
-            Form::Raw => 3,
-            Form::Tokenized => 8,
-            Form::Partial => 10,
-        }
+// The number of a line that ends behind a boundary.
+fn unfinished(form: Form) -> u8
+    ensures { λ r. ⌜ r ≡ unfinished form ⌝ }
+{
+    match form {
+        Form::Raw => 3,
+        Form::Tokenized => 8,
+        Form::Partial => 10,
     }
 }
 
@@ -157,7 +151,7 @@ impl State {
 
     // A character is awaited, and this form takes it literally.
     fn is_literal(self, form: Form) -> bool
-        ensures { λ r. ⌜ r ≡ literal (formOf form) (placeOf self) ⌝ }
+        ensures { λ r. ⌜ r ≡ literal form (placeOf self) ⌝ }
     {
         match form {
             Form::Raw => self.awaits(),
@@ -219,7 +213,7 @@ impl State {
 
     // An ordinary character behind another; the partial form has none.
     fn behind(form: Form, c: u32) -> Stepped
-        ensures { λ r. ⌜ r ≡ stepped c (ordinary (formOf form) behind c) ⌝ }
+        ensures { λ r. ⌜ r ≡ stepped c (ordinary form behind c) ⌝ }
     {
         match form {
             Form::Raw => State::letter(Mark::Unknown, c),
@@ -230,7 +224,7 @@ impl State {
 
     // An ordinary character: of the open tag, else text.
     fn ordinary(self, form: Form, c: u32) -> Stepped
-        ensures { λ r. ⌜ r ≡ stepped c (ordinary (formOf form) (placeOf self) c) ⌝ }
+        ensures { λ r. ⌜ r ≡ stepped c (ordinary form (placeOf self) c) ⌝ }
     {
         let m = self.mark;
         if !self.begun {
@@ -320,7 +314,7 @@ impl State {
 
     // One character.
     pub fn step(self, form: Form, c: u32) -> Stepped
-        ensures { λ r. ⌜ r ≡ stepped c (advance (formOf form) (stateOf self) c) ⌝ }
+        ensures { λ r. ⌜ r ≡ stepped c (advance form (stateOf self) c) ⌝ }
     {
         if c == 0 {
             return State::refused(4, c);
@@ -331,7 +325,7 @@ impl State {
         if self.is_literal(form) {
             return self.ordinary(form, c);
         }
-        match form.kind(c) {
+        match meaning(form, c) {
             Kind::Mark(m) => self.boundary(m, c),
             Kind::Slash => self.slash(c),
             Kind::Back => self.backslash(c),
@@ -341,13 +335,13 @@ impl State {
 
     // The line's end; a lone backslash is dropped.
     pub fn end(self, form: Form) -> Ended
-        ensures { λ r. ⌜ r ≡ ended (finish (formOf form) (stateOf self)) ⌝ }
+        ensures { λ r. ⌜ r ≡ ended (finish form (stateOf self)) ⌝ }
     {
         if !self.begun {
             return Ended::Refuse(3);
         }
         if self.prev_space {
-            return Ended::Refuse(form.unfinished());
+            return Ended::Refuse(unfinished(form));
         }
         Ended::Whole
     }

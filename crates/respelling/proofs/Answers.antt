@@ -15,8 +15,9 @@ use Rattle.convert.proofs.Placed.{written-fits}
 use Rattle.respelling.specs.Puts.{Puts, Into}
 use Rattle.respelling.specs.Decimal.{decimal}
 use Rattle.laws.proofs.Tail.{lent}
+use Rattle.sentence.specs.Forms.{letter}
 use Rattle.sentence.specs.Refusals.{refusal}
-use Rattle.respelling.specs.Respell.{letter, outcome, printed, answer}
+use Rattle.respelling.specs.Respell.{outcome, printed, answer}
 use Rattle.respelling.proofs.Puts.{puts-byte, puts-then, puts-lent, puts-again, puts-long}
 
 -- `!`, the number and a space, the place and LF

@@ -9,7 +9,8 @@ use lib.Dec.{eqb, ltb}
 use lib.ListN.{length, take, drop, length-append, length-drop, take-append-drop}
 use lib.Seq.{drop-length, drop-drop, length-take-le, take-all}
 use Rattle.laws.specs.If.{if_then_else_, if-true, if-false, if-cases}
-use Rattle.sentence.specs.Reading.{Form, refused, read}
+use Rattle.sentence.specs.declared.Form.{Form}
+use Rattle.sentence.specs.Reading.{refused, read}
 use Rattle.convert_buffers.specs.Between.{between}
 use Rattle.convert.specs.Convert.{conversion}
 use Rattle.respelling.specs.declared.Turn.{Turn}

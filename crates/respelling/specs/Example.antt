@@ -9,13 +9,14 @@ use Rattle.laws.specs.Quoted.{quoted}
 use Rattle.utf8.specs.Utf8.{utf8-2, utf8-3, utf8-4, charOf, walk, wholes, values, encode, encodes, width, size}
 use Rattle.utf8.specs.Text.{text-of}
 use Rattle.sentence.specs.Sentence.{textOf, marksOf, rowsOf, onto, cut, pad}
+use Rattle.sentence.specs.Forms.{formOf, letter}
 use Rattle.sentence.specs.Reading.{kind, ordinary, inside, opening, step, advance, unfinished, ending, finish, push, follow, run, before, add, gather, built, placed, read}
 use Rattle.sentence.specs.Writing.{tokens, escapeAs, escape, writeTags, writeToken, joined, sign, shown, writePartial, line}
 use Rattle.sentence.specs.Refusals.{refusal, verdict, hostOrder}
-use Rattle.convert_buffers.specs.Between.{refuses, formOf, overfull, between}
+use Rattle.convert_buffers.specs.Between.{refuses, overfull, between}
 use Rattle.convert.specs.Convert.{unknownForms, outOfRange, conversion}
 use Rattle.respelling.specs.Decimal.{digits, decimal}
-use Rattle.respelling.specs.Respell.{letter, outcome, printed, lines, answers, respell}
+use Rattle.respelling.specs.Respell.{outcome, printed, lines, answers, respell}
 use Rattle.respelling.specs.Respell.{before as Respell·before}
 
 pub input : List ℕ

@@ -6,14 +6,11 @@ use mathlib.Core.List.{List, [], _∷_, _++_}
 use lib.Dec.{eqb}
 use Rattle.laws.specs.If.{if_then_else_}
 use Rattle.sentence.specs.declared.Refusal.{Refusal}
+use Rattle.sentence.specs.Forms.{letter}
 use Rattle.sentence.specs.Refusals.{refusal}
 use Rattle.convert_buffers.specs.Between.{Outcome, writes, refuses}
 use Rattle.convert.specs.Convert.{conversion}
 use Rattle.respelling.specs.Decimal.{decimal}
-
--- the number of a letter's form: R raw, T tokenized, P partial; 3 is no form
-unfoldable pub letter : ℕ → ℕ
-letter b = if eqb b (chr "R") then 0 else if eqb b (chr "T") then 1 else if eqb b (chr "P") then 2 else 3
 
 -- what is made of an input line: a reader's letter, a writer's letter, the sentence line; 8,192 bytes are the room for the written line
 unfoldable pub outcome : List ℕ → Outcome

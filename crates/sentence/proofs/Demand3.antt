@@ -13,7 +13,9 @@ use Rattle.laws.specs.All.{All, All-append}
 use Rattle.utf8.specs.Utf8.{scalars, validPrefix, scalar, encodes, size}
 use Rattle.utf8.proofs.Codec.{scalars-encodes, valid-encodes}
 use Rattle.sentence.specs.Sentence.{Tag, Mark, none, word, unknown, Cells, final, cell, Sentence, textOf, marksOf, rowsOf, text, marks, rows, table, onto, cut, pad, Char, Row, CellsOf, Formed, Agree, NoUnknown, NoneInside}
-use Rattle.sentence.specs.Reading.{Form, Annotated, raw, tokenized, partial, Kind, mark, slash, back, plain, kind, at, start, Run, whole, stopped, run, Rest, over, next, Parsed, parsed, gather, Result, sentence, refused, built, placed, read}
+use Rattle.sentence.specs.declared.Form.{Form}
+use Rattle.sentence.specs.declared.Form.the-variants.{Raw as raw, Tokenized as tokenized, Partial as partial}
+use Rattle.sentence.specs.Reading.{Annotated, Kind, mark, slash, back, plain, kind, at, start, Run, whole, stopped, run, Rest, over, next, Parsed, parsed, gather, Result, sentence, refused, built, placed, read}
 use Rattle.sentence.specs.Writing.{escapeAs, escape, writeTags, sign, shown, writePartial, line, written}
 use Rattle.sentence.proofs.Runs.{Got, got, bad, gathered, reads}
 use Rattle.sentence.proofs.Trips.{cut-pad, pad-shows, shown-shows, Whole, plainly, line-plainly, Fits, reads-line}

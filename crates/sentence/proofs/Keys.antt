@@ -5,7 +5,8 @@ use mathlib.Core.Logic.{_↔_}
 use mathlib.Core.List.{List, []}
 use lib.ListN.{length, getD}
 use Rattle.sentence.specs.Sentence.{Mark, none, Cells, Sentence, textOf, marksOf, rowsOf, text, marks, table, Formed, Agree}
-use Rattle.sentence.specs.Reading.{partial, sentence, read}
+use Rattle.sentence.specs.declared.Form.the-variants.{Partial as partial}
+use Rattle.sentence.specs.Reading.{sentence, read}
 use Rattle.sentence.specs.Writing.{written, key}
 use Rattle.sentence.specs.Withheld.{trimmed, withheld, Outside, SameNote}
 use Rattle.sentence.proofs.Demand3.{agree-same, same-read, read-written}

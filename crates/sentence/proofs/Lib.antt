@@ -1,3 +1,4 @@
+pub mod Forms
 pub mod Runs
 pub mod Trips
 pub mod Shape

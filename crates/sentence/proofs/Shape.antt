@@ -12,7 +12,9 @@ use Rattle.laws.specs.All.{All}
 use Rattle.utf8.specs.Utf8.{scalars, validPrefix, scalar, width, size}
 use Rattle.utf8.proofs.Codec.{width-small, length-encodes, encodes-scalars, valid-within, all-scalar}
 use Rattle.sentence.specs.Sentence.{Tag, Mark, none, word, unknown, Cells, final, cell, Sentence, textOf, rowsOf, text, rows, onto, cut, listed, rowBytes, tagBytes, Char, Row, CellsOf, Formed}
-use Rattle.sentence.specs.Reading.{Form, raw, tokenized, partial, Kind, mark, slash, back, plain, kind, Place, start, behind, inTag, gap, State, at, escaped, Act, skip, letter, opens, ofTag, Step, go, stop, ordinary, inside, opening, step, advance, Run, whole, stopped, ending, finish, push, follow, run, Rest, over, next, Parsed, parsed, before, add, gather, Result, sentence, refused, built, placed, read}
+use Rattle.sentence.specs.declared.Form.{Form}
+use Rattle.sentence.specs.declared.Form.the-variants.{Raw as raw, Tokenized as tokenized, Partial as partial}
+use Rattle.sentence.specs.Reading.{Kind, mark, slash, back, plain, kind, Place, start, behind, inTag, gap, State, at, escaped, Act, skip, letter, opens, ofTag, Step, go, stop, ordinary, inside, opening, step, advance, Run, whole, stopped, ending, finish, push, follow, run, Rest, over, next, Parsed, parsed, before, add, gather, Result, sentence, refused, built, placed, read}
 use Rattle.sentence.proofs.Trips.{Whole}
 
 -- ---- a cut row

@@ -10,7 +10,9 @@ use lib.Seq.{take-at, drop-at, drop-drop, getD-drop}
 use Rattle.laws.specs.If.{if_then_else_}
 use Rattle.laws.specs.All.{All, All-append}
 use Rattle.sentence.specs.Sentence.{Tag, Mark, none, word, unknown, Cells, final, cell, Sentence, textOf, marksOf, rowsOf, text, rows, onto, cut, pad, Char, Row, CellsOf}
-use Rattle.sentence.specs.Reading.{Form, Annotated, raw, tokenized, partial, Kind, mark, back, plain, kind, Place, start, behind, gap, at, escaped, skip, letter, go, ordinary, inside, opening, step, next, parsed, before, add}
+use Rattle.sentence.specs.declared.Form.{Form}
+use Rattle.sentence.specs.declared.Form.the-variants.{Raw as raw, Tokenized as tokenized, Partial as partial}
+use Rattle.sentence.specs.Reading.{Annotated, Kind, mark, back, plain, kind, Place, start, behind, gap, at, escaped, skip, letter, go, ordinary, inside, opening, step, next, parsed, before, add}
 use Rattle.sentence.specs.Writing.{token, tokens, escapeAs, escape, writeTags, writeToken, joined, sign, shown, writePartial, line}
 use Rattle.sentence.proofs.Runs.{got, adds, reads, reads-go, reads-char, reads-tags, follows-mark, follows-end}
 

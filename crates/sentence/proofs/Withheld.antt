@@ -14,7 +14,8 @@ use Rattle.laws.specs.All.{All}
 use Rattle.utf8.specs.Utf8.{validPrefix, scalar, encodes}
 use Rattle.utf8.proofs.Codec.{length-encodes, scalars-encodes, valid-encodes}
 use Rattle.sentence.specs.Sentence.{Tag, Mark, none, unknown, Cells, final, cell, Sentence, textOf, marksOf, rowsOf, text, marks, count, onto, cut, rowBytes, tagBytes, Row, CellsOf, Formed}
-use Rattle.sentence.specs.Reading.{raw, partial, plain, kind, behind, start, State, at, Act, letter, go, ordinary, inside, step, advance, whole, ending, finish, push, follow, run, next, parsed, before, add, gather, sentence, built, placed, read}
+use Rattle.sentence.specs.declared.Form.the-variants.{Raw as raw, Partial as partial}
+use Rattle.sentence.specs.Reading.{plain, kind, behind, start, State, at, Act, letter, go, ordinary, inside, step, advance, whole, ending, finish, push, follow, run, next, parsed, before, add, gather, sentence, built, placed, read}
 use Rattle.sentence.specs.Writing.{written}
 use Rattle.sentence.proofs.Demand3.{same-read, read-written}
 use Rattle.sentence.specs.Withheld.{inRange, touches, hidden, widest, trimmed, withheld, tagIn, Outside, Copy}

@@ -1,3 +1,4 @@
+pub mod Forms
 pub mod Sentence
 pub mod Withheld
 pub mod Reading

@@ -7,10 +7,9 @@ use lib.Dec.{eqb, ltb}
 use lib.ListN.{length}
 use Rattle.laws.specs.If.{if_then_else_}
 use Rattle.utf8.specs.Utf8.{scalars, validPrefix, size}
+use Rattle.sentence.specs.declared.Form.{Form}
+use Rattle.sentence.specs.declared.Form.the-variants.{Raw as raw, Tokenized as tokenized, Partial as partial}
 use Rattle.sentence.specs.Sentence.{Tag, Mark, none, word, unknown, Cells, final, cell, Sentence, cut}
-
-pub data Form : Type 0 where
-  raw tokenized partial : Form
 
 -- the two forms that have boundaries, tags and escapes
 abbrev pub Annotated : Form → Type 0

@@ -11,7 +11,9 @@ use Rattle.utf8.specs.Utf8.{utf8-2, utf8-3, utf8-4, charOf, walk, wholes, value
 use Rattle.utf8.specs.Text.{text-of}
 use Rattle.types.specs.TypeOf.{find, ranges, typeOf}
 use Rattle.sentence.specs.Sentence.{Tag, Mark, none, word, unknown, code, Cells, final, cell, Sentence, textOf, marksOf, rowsOf, text, marks, rows, count, types, starts, numbers, charPositions, bytePositions, onto, cut, pad}
-use Rattle.sentence.specs.Reading.{Form, raw, tokenized, partial, kind, ordinary, inside, opening, step, advance, unfinished, ending, finish, push, follow, run, before, add, gather, Result, sentence, refused, built, placed, read}
+use Rattle.sentence.specs.declared.Form.{Form}
+use Rattle.sentence.specs.declared.Form.the-variants.{Raw as raw, Tokenized as tokenized, Partial as partial}
+use Rattle.sentence.specs.Reading.{kind, ordinary, inside, opening, step, advance, unfinished, ending, finish, push, follow, run, before, add, gather, Result, sentence, refused, built, placed, read}
 use Rattle.sentence.specs.Writing.{Token, token, tokens, tokensFrom, Served, serves, done, first, nextToken, surface, escapeAs, escape, writeTags, writeToken, joined, sign, shown, writePartial, line, written, key, bare, marked, resetTags, setMark, setBoundary, decision, scored, blank}
 use Rattle.sentence.specs.Withheld.{inRange, touches, hidden, widest, trimmed, withheld}
 

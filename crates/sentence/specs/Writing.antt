@@ -10,7 +10,9 @@ use Rattle.laws.specs.If.{if_then_else_}
 use Rattle.utf8.specs.Utf8.{encodes}
 use Rattle.sentence.specs.Sentence.{Tag, Mark, none, word, unknown, Cells, final, cell, Sentence, text, marks, rows, count, cut, pad}
 use Rattle.sentence.specs.Withheld.{trimmed}
-use Rattle.sentence.specs.Reading.{Form, raw, tokenized, partial, Kind, mark, slash, back, plain, kind}
+use Rattle.sentence.specs.declared.Form.{Form}
+use Rattle.sentence.specs.declared.Form.the-variants.{Raw as raw, Tokenized as tokenized, Partial as partial}
+use Rattle.sentence.specs.Reading.{Kind, mark, slash, back, plain, kind}
 
 -- ---- tokens
 pub data Token : Type 0 where

@@ -8,7 +8,8 @@ use Rattle.laws.specs.Quoted.{quoted}
 use Rattle.utf8.specs.Utf8.{utf8-2, utf8-3, utf8-4, charOf, walk, wholes, values, width, encode, encodes, size}
 use Rattle.utf8.specs.Text.{text-of}
 use Rattle.sentence.specs.Sentence.{word, cell, final, Sentence, rowsOf, onto, cut, pad}
-use Rattle.sentence.specs.Reading.{tokenized, kind, ordinary, inside, opening, step, advance, unfinished, ending, finish, push, follow, run, before, add, gather, sentence, built, placed, read}
+use Rattle.sentence.specs.declared.Form.the-variants.{Tokenized as tokenized}
+use Rattle.sentence.specs.Reading.{kind, ordinary, inside, opening, step, advance, unfinished, ending, finish, push, follow, run, before, add, gather, sentence, built, placed, read}
 use Rattle.sheet.specs.Layout.{cellsOf, cellStarts, lay}
 
 -- the line

@@ -9,7 +9,7 @@ use borrow.Author.Tests.{le-ltb, ltb-false}
 use lib.Dec.{ltb}
 use lib.ListN.{length}
 use Rattle.sentence.specs.Sentence.{count}
-use Rattle.sentence.specs.Reading.{partial}
+use Rattle.sentence.specs.declared.Form.the-variants.{Partial as partial}
 use Rattle.sentence.specs.Writing.{written}
 use Rattle.sentence.specs.Withheld.{hidden, widest, trimmed, withheld}
 use Rattle.sentence.specs.Refusals.{refusal}

@@ -8,7 +8,8 @@ use lib.Dec.{ltb}
 use lib.ListN.{length}
 use Rattle.laws.specs.Put.{over}
 use Rattle.sentence.specs.Sentence.{count}
-use Rattle.sentence.specs.Reading.{Form, partial}
+use Rattle.sentence.specs.declared.Form.{Form}
+use Rattle.sentence.specs.declared.Form.the-variants.{Partial as partial}
 use Rattle.sentence.specs.Writing.{written, key}
 use Rattle.sentence.specs.Withheld.{withheld}
 use Rattle.sentence.specs.Refusals.{Check, verdict, sheetOrder}

@@ -11,7 +11,7 @@ use write_partial::unchecked::shown_short;
 use write_tokenized::unchecked::tokenized_into;
 use write_tokenized::unchecked::tokenized_short;
 ghost use mathlib.Core.Path.{_≡_};
-ghost use Rattle.sentence.specs.Reading.{tokenized, partial};
+ghost use Rattle.sentence.specs.declared.Form.the-variants.{Tokenized as tokenized, Partial as partial};
 ghost use Rattle.sentence.specs.Refusals.{refusal};
 ghost use Rattle.sheet.specs.declared.Number.the-variants.{Refused};
 ghost use Rattle.sheet.specs.Layout.{lentBefore};

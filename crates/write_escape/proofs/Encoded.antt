@@ -12,7 +12,9 @@ use Rattle.laws.specs.All.{All}
 use Rattle.utf8.specs.Utf8.{encode, encodes}
 use Rattle.utf8.proofs.Codec.{encodes-append}
 use Rattle.sentence.specs.Sentence.{Tag, pad}
-use Rattle.sentence.specs.Reading.{Form, raw, tokenized, partial, Kind, mark, slash, back, plain, kind}
+use Rattle.sentence.specs.declared.Form.{Form}
+use Rattle.sentence.specs.declared.Form.the-variants.{Raw as raw, Tokenized as tokenized, Partial as partial}
+use Rattle.sentence.specs.Reading.{Kind, mark, slash, back, plain, kind}
 use Rattle.sentence.specs.Writing.{escapeAs, escape, writeTags}
 use Rattle.sentence.proofs.Trips.{escape-append}
 

@@ -11,7 +11,8 @@ use lib.ListN.{length, drop, getD}
 use Rattle.utf8.specs.Utf8.{encodes, size}
 use Rattle.utf8.proofs.Codec.{encodes-append, width-small}
 use Rattle.sentence.specs.Sentence.{Tag, Sentence, text, rows, onto, cut, pad, rowBytes, Row}
-use Rattle.sentence.specs.Reading.{Form, tokenized}
+use Rattle.sentence.specs.declared.Form.{Form}
+use Rattle.sentence.specs.declared.Form.the-variants.{Tokenized as tokenized}
 use Rattle.sentence.specs.Writing.{token, surface, writeTags, writeToken}
 use Rattle.sheet.specs.declared.Record.{Record}
 use Rattle.sheet.specs.Layout.{Buffers, Holds}

@@ -8,7 +8,8 @@ use native.Mathlib.Nat.{add-zero}
 use native.Mathlib.Omega.{arith}
 use lib.ListN.{length, take, drop, getD, replicate, length-append, length-drop, length-replicate}
 use lib.Seq.{take-add, drop-at, drop-append-le, length-take-le, slice-empty}
-use Rattle.sentence.specs.Reading.{Form, tokenized, partial}
+use Rattle.sentence.specs.declared.Form.{Form}
+use Rattle.sentence.specs.declared.Form.the-variants.{Tokenized as tokenized, Partial as partial}
 use Rattle.sentence.specs.Writing.{escape, writeTags}
 use Rattle.sentence.proofs.Trips.{escape-append}
 use Rattle.sheet.proofs.Look.{stretch-left}

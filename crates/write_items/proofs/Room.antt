@@ -11,7 +11,7 @@ use lib.ListN.{length, replicate, length-append, length-replicate}
 use Rattle.laws.specs.If.{if_then_else_}
 use Rattle.utf8.specs.Utf8.{encodes}
 use Rattle.sentence.specs.Sentence.{Tag, Sentence, pad, rowBytes}
-use Rattle.sentence.specs.Reading.{Form}
+use Rattle.sentence.specs.declared.Form.{Form}
 use Rattle.sentence.specs.Writing.{escape, writeTags}
 use Rattle.sentence.proofs.Trips.{escape-append, pad-length}
 use Rattle.sheet.specs.declared.Record.{Record}

@@ -5,7 +5,7 @@ use mathlib.Core.List.{List, [], _∷_, _++_, append-nil}
 use native.Mathlib.Omega.{arith}
 use lib.ListN.{length, take, drop, getD, set, replicate, length-append, length-set, length-replicate}
 use Rattle.sentence.specs.Sentence.{pad}
-use Rattle.sentence.specs.Reading.{Form}
+use Rattle.sentence.specs.declared.Form.{Form}
 use Rattle.sentence.specs.Writing.{escape, writeTags}
 use Rattle.write_escape.specs.Wrote.{Wrote, wrote-both, wrote-long, Writing, write-start, write-byte, write-part, write-fits, write-done}
 use Rattle.write_escape.proofs.Encoded.{tags-append, tags-absent}

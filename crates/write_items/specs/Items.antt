@@ -6,7 +6,8 @@ use lib.Dec.{eqb, ltb}
 use lib.ListN.{length, take, drop, getD}
 use Rattle.laws.specs.If.{if_then_else_}
 use Rattle.sentence.specs.Sentence.{Tag, pad}
-use Rattle.sentence.specs.Reading.{Form, tokenized, partial}
+use Rattle.sentence.specs.declared.Form.{Form}
+use Rattle.sentence.specs.declared.Form.the-variants.{Tokenized as tokenized, Partial as partial}
 use Rattle.sentence.specs.Writing.{escape, writeTags}
 use Rattle.sheet.specs.declared.Record.{Record}
 

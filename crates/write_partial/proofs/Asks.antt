@@ -4,7 +4,7 @@ use mathlib.Core.Path.{_≡_, refl, sym, _∙_}
 use mathlib.Core.List.{List, [], _∷_, _++_}
 use native.Mathlib.Omega.{arith}
 use lib.ListN.{length, take, drop, getD, set, length-append, length-set}
-use Rattle.sentence.specs.Reading.{partial}
+use Rattle.sentence.specs.declared.Form.the-variants.{Partial as partial}
 use Rattle.sentence.specs.Writing.{escape}
 use Rattle.write_escape.specs.Wrote.{Wrote, wrote-long, Writing, write-start, write-byte, write-part, write-keep, write-fits, write-done}
 use Rattle.write_items.specs.Items.{countAt, bytesTo, Follow, TextLies, RowLies, charLine}

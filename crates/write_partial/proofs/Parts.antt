@@ -12,7 +12,7 @@ use Rattle.laws.specs.If.{if_then_else_, if-true, if-false}
 use Rattle.utf8.specs.Utf8.{encode, encodes}
 use Rattle.utf8.proofs.Codec.{encodes-append}
 use Rattle.sentence.specs.Sentence.{Tag, Mark, none, word, unknown, Cells, final, cell, Sentence, textOf, marksOf, rowsOf, text, marks, rows, cut, pad}
-use Rattle.sentence.specs.Reading.{partial}
+use Rattle.sentence.specs.declared.Form.the-variants.{Partial as partial}
 use Rattle.sentence.specs.Writing.{surface, writeTags, sign, shown, writePartial, line, written}
 use Rattle.sentence.specs.Withheld.{inRange, touches}
 use Rattle.sentence.proofs.Withheld.{out-before, out-behind, in-range, none-in}

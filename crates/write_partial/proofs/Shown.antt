@@ -9,7 +9,7 @@ use lib.ListN.{length, drop, getD, drop-of-length-le}
 use Rattle.laws.specs.If.{if_then_else_, if-map, if-both}
 use Rattle.laws.specs.Put.{over}
 use Rattle.sentence.specs.Sentence.{Tag, none, unknown, Cells, final, cell, Sentence, marksOf, rowsOf, text, marks, rows, cut, Row}
-use Rattle.sentence.specs.Reading.{partial}
+use Rattle.sentence.specs.declared.Form.the-variants.{Partial as partial}
 use Rattle.sentence.specs.Writing.{written}
 use Rattle.sentence.specs.Withheld.{inRange, touches, hidden}
 use Rattle.sentence.proofs.Withheld.{out-before, out-behind, in-range, none-in, hidden-none, text-hidden, row-at}

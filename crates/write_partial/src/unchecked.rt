@@ -1,4 +1,5 @@
 // Internal: each function assumes a checked sheet, or parts that lie in their slices, and the writers room for what they write.
+use sentence::Form;
 use sheet::Record;
 use write_escape::unchecked::escaped_len;
 use write_escape::unchecked::repeat;
@@ -14,7 +15,7 @@ ghost use mathlib.Core.Path.{_≡_};
 ghost use lib.Dec.{eqb};
 ghost use lib.ListN.{length};
 ghost use Rattle.laws.specs.If.{if_then_else_};
-ghost use Rattle.sentence.specs.Reading.{partial};
+ghost use Rattle.sentence.specs.declared.Form.the-variants.{Partial as partial};
 ghost use Rattle.sentence.specs.Writing.{sign, written};
 ghost use Rattle.sentence.specs.Withheld.{inRange, hidden, widest};
 ghost use Rattle.sheet.specs.Layout.{markOf, spell, Sheet, lent, lentBefore};
@@ -174,7 +175,7 @@ fn before_len(
     );
     let listed = row_count(cell_starts, cell_lengths, stride, last);
     let to = bytes_before(cell_starts, cell_lengths, stride, start);
-    let tags = escaped_len(true, tag_bytes, 0, to);
+    let tags = escaped_len(Form::Partial, tag_bytes, 0, to);
     bytes + start + slashes + listed + tags
 }
 
@@ -214,7 +215,7 @@ fn rest_len(
     );
     let start = bytes_before(cell_starts, cell_lengths, stride, from);
     let to = bytes_before(cell_starts, cell_lengths, stride, last + 1);
-    let tags = escaped_len(true, tag_bytes, start, to);
+    let tags = escaped_len(Form::Partial, tag_bytes, start, to);
     bytes + (last - from) + slashes + columns + tags
 }
 

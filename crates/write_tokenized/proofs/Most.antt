@@ -11,7 +11,7 @@ use Rattle.utf8.specs.Utf8.{encode, encodes, size}
 use Rattle.utf8.proofs.Codec.{encodes-append, length-encodes, size-append}
 use Rattle.laws.specs.If.{if_then_else_}
 use Rattle.sentence.specs.Sentence.{Tag, Sentence, text, marks, rows, pad, rowBytes, tagBytes, Row}
-use Rattle.sentence.specs.Reading.{tokenized}
+use Rattle.sentence.specs.declared.Form.the-variants.{Tokenized as tokenized}
 use Rattle.sentence.specs.Writing.{Token, token, surface, escape, writeTags, writeToken, joined, line, written, serves, nextToken}
 use Rattle.sentence.proofs.Tokens.{InOrder, onward, onward-start, by-steps}
 use Rattle.sheet.specs.declared.Record.{Record}

@@ -9,7 +9,7 @@ use write_items::unchecked::wide;
 ghost use Prim.Native.Nat.{_+_, _≤_};
 ghost use mathlib.Core.Path.{_≡_};
 ghost use lib.ListN.{length};
-ghost use Rattle.sentence.specs.Reading.{tokenized};
+ghost use Rattle.sentence.specs.declared.Form.the-variants.{Tokenized as tokenized};
 ghost use Rattle.sentence.specs.Writing.{written};
 ghost use Rattle.sheet.specs.Layout.{spell, Sheet, lent, lentBefore};
 ghost use Rattle.write_items.specs.Items.{shortOf};

@@ -19,6 +19,12 @@ returns c = search unknown
 returns-2 : tie.Need-returns-2
 returns-2 c = search outside
 
+of-requires : tie.Need-of-requires
+of-requires c κs = search needs
+
+of-requires-2 : tie.Need-of-requires-2
+of-requires-2 c κs = search needs
+
 sub-between : tie.Need-sub-between
 sub-between c = search in-range
 
@@ -34,11 +40,11 @@ between-requires c κs = search annotated
 enum-known-n : tie.Need-enum-known-n
 enum-known-n c = search needs
 
-fits : (c : tie.After-known-told) → c .before .before .before .before .before .before .before .before .before .before .before .before .before .args .at + c .before .n .given .0 .0 ≤ length (c .before .before .before .before .before .before .before .before .before .before .before .before .before .args .out .now)
+fits : (c : tie.After-known-told) → c .before .before .before .before .before .before .before .before .before .before .before .before .before .before .before .args .at + c .before .n .given .0 .0 ≤ length (c .before .before .before .before .before .before .before .before .before .before .before .before .before .before .before .args .out .now)
 fits c = search few
 
-add-t19 : tie.Need-add-t19
-add-t19 c = omega (arith, fits c)
+add-t21 : tie.Need-add-t21
+add-t21 c = omega (arith, fits c)
 
 enum-known-r : tie.Need-enum-known-r
 enum-known-r c = search needs
@@ -63,12 +69,14 @@ convert-spec =
     out-of-range-requires
     returns
     returns-2
+    of-requires
+    of-requires-2
     sub-between
     part-between-start
     part-between-end
     between-requires
     enum-known-n
-    add-t19
+    add-t21
     enum-known-r
     same-length
     returns-3

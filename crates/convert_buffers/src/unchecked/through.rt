@@ -1,21 +1,20 @@
 // A line that was scanned, laid into lent buffers that have room for it, and written from there.
 use crate::Converted;
 use crate::unchecked::writing::write_as;
-use read_state::Form;
+use sentence::Form;
 use sheet::Record;
 ghost use mathlib.Core.Path.{_≡_};
 ghost use mathlib.Core.Bool.{false};
 ghost use lib.ListN.{length};
-ghost use Rattle.sentence.specs.Reading.{read};
+ghost use Rattle.sentence.specs.Reading.{Annotated, read};
 ghost use Rattle.sheet.specs.Layout.{lent};
-ghost use Rattle.read_state.specs.Flags as flags;
-ghost use Rattle.convert_buffers.specs.Between.{formOf, between, Converts};
+ghost use Rattle.convert_buffers.specs.Between.{between, Converts};
 ghost use Rattle.convert_buffers.specs.Through.{Scanned, Wide};
 
 // Lays down the sentence of a line, and writes it.
 pub fn through(
-    form: Form,
-    writer: u32,
+    reader: Form,
+    writer: Form,
     r: Record,
     line: &[u8],
     out: &mut [u8],
@@ -28,15 +27,15 @@ pub fn through(
     cell_lengths: &mut [u16],
     tag_bytes: &mut [u8],
 ) -> Converted
-    requires { ⌜ (writer ≡ 0 → ⊥)
-        × Scanned (read (flags.formOf form) (now line)) r
+    requires { ⌜ Annotated writer
+        × Scanned (read reader (now line)) r
         × Wide (length (now line)) (r .cells) (lent text types boundaries «char_pos» «byte_pos» «cell_starts» «cell_lengths» «tag_bytes») ⌝ }
     ensures { λ a. ⌜ Converts (λ (c : Converted). c)
-        (between false false (flags.formOf form) (formOf writer) (length (now (out .entry))) (now (line .entry))) 0 (now (out .entry)) a
+        (between false false reader writer (length (now (out .entry))) (now (line .entry))) 0 (now (out .entry)) a
         (now (out .exit)) ⌝ }
 {
     read_fill::unchecked::fill(
-        form,
+        reader,
         r.columns,
         line,
         text,

@@ -1,5 +1,6 @@
 // A sentence written from the buffers that hold it, where the output has room for its line.
 use crate::Converted;
+use sentence::Form;
 use sentence::Refusal;
 use sheet::Record;
 use write_partial::unchecked::partial_into;
@@ -8,9 +9,10 @@ use write_tokenized::unchecked::tokenized_into;
 use write_tokenized::unchecked::tokenized_short;
 ghost use mathlib.Core.Path.{_≡_};
 ghost use lib.ListN.{length};
-ghost use Rattle.sentence.specs.Reading.{tokenized, partial};
+ghost use Rattle.sentence.specs.declared.Form.the-variants.{Tokenized as tokenized, Partial as partial};
+ghost use Rattle.sentence.specs.Reading.{Annotated};
 ghost use Rattle.sheet.specs.Layout.{spell, Sheet, lent, lentBefore};
-ghost use Rattle.convert_buffers.specs.Between.{formOf, Converts};
+ghost use Rattle.convert_buffers.specs.Between.{Converts};
 ghost use Rattle.convert_buffers.specs.Through.{writing};
 
 // The tokenized line.
@@ -117,7 +119,7 @@ fn partial_as(
 
 // Writes a sentence in one of the two annotated forms.
 pub fn write_as(
-    writer: u32,
+    writer: Form,
     r: Record,
     text: &[u8],
     types: &[u8],
@@ -129,13 +131,15 @@ pub fn write_as(
     tag_bytes: &[u8],
     out: &mut [u8],
 ) -> Converted
-    requires { ⌜ (writer ≡ 0 → ⊥) × Sheet r (lent text types boundaries «char_pos» «byte_pos» «cell_starts» «cell_lengths» «tag_bytes») ⌝ }
-    ensures { λ a. ⌜ Converts (λ (c : Converted). c) (writing (formOf writer) (length (now (out .entry)))
+    requires { ⌜ Annotated writer × Sheet r (lent text types boundaries «char_pos» «byte_pos» «cell_starts» «cell_lengths» «tag_bytes») ⌝ }
+    ensures { λ a. ⌜ Converts (λ (c : Converted). c) (writing writer (length (now (out .entry)))
         (spell r (lentBefore text types boundaries «char_pos» «byte_pos» «cell_starts» «cell_lengths» «tag_bytes»))) 0 (now (out .entry)) a
         (now (out .exit)) ⌝ }
 {
-    if writer == 1 {
-        return tokenized_as(
+    match writer {
+        // it is no form to write, and is refused before
+        Form::Raw => Converted::Wrote(0),
+        Form::Tokenized => tokenized_as(
             r,
             text,
             types,
@@ -146,18 +150,18 @@ pub fn write_as(
             cell_lengths,
             tag_bytes,
             out,
-        );
+        ),
+        Form::Partial => partial_as(
+            r,
+            text,
+            types,
+            boundaries,
+            char_pos,
+            byte_pos,
+            cell_starts,
+            cell_lengths,
+            tag_bytes,
+            out,
+        ),
     }
-    partial_as(
-        r,
-        text,
-        types,
-        boundaries,
-        char_pos,
-        byte_pos,
-        cell_starts,
-        cell_lengths,
-        tag_bytes,
-        out,
-    )
 }

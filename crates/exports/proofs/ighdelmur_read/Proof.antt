@@ -20,8 +20,8 @@ code-requires-2 c κs = search needs
 returns-2 : tie.Need-returns-2
 returns-2 c = search reads-14
 
-form-of-requires : tie.Need-form-of-requires
-form-of-requires c κs = search needs
+of-requires : tie.Need-of-requires
+of-requires c κs = search needs
 
 load-requires : tie.Need-load-requires
 load-requires c κs = search needs
@@ -68,7 +68,7 @@ ighdelmur-read-spec =
     returns
     code-requires-2
     returns-2
-    form-of-requires
+    of-requires
     load-requires
     tell-read-requires
     same-length

@@ -1,7 +1,6 @@
 -- `exports::ighdelmur_write` meets its contract. Assumes nothing.
-use Rattle.laws.proofs.Tests.{of-call}
 use Rattle.exports.proofs.Places.{near-written}
-use Rattle.exports.proofs.Told.{writes-16, writes-on}
+use Rattle.exports.proofs.Told.{annotated, writes-16, writes-on}
 use borrow.Author.Needs.{needs}
 use Rattle.exports.proofs.ighdelmur_write.Statement.{statement}
 use Rattle.exports.proofs.ighdelmur_write.Tie as tie
@@ -15,8 +14,11 @@ code-requires c κs = search needs
 returns : tie.Need-returns
 returns c = search writes-16
 
+of-requires : tie.Need-of-requires
+of-requires c κs = search needs
+
 write-as-requires : tie.Need-write-as-requires
-write-as-requires c κs = search of-call
+write-as-requires c κs = search annotated
 
 tell-number-requires : tie.Need-tell-number-requires
 tell-number-requires c κs = search near-written
@@ -34,6 +36,7 @@ ighdelmur-write-spec =
     no-writer-requires
     code-requires
     returns
+    of-requires
     write-as-requires
     tell-number-requires
     same-length

@@ -1,4 +1,3 @@
-use Rattle.read_state.specs.Flags.{formOf}
 use borrow.Author.Needs.{needs}
 use Rattle.read.proofs.update_tokenized.Statement.{statement}
 use Rattle.read.proofs.update_tokenized.Tie as tie
@@ -31,7 +30,6 @@ same-length-8 : tie.Need-same-length-8
 same-length-8 c = search needs
 
 returns : tie.Need-returns
-unfolding formOf
 returns c = c .before .before .before .before .before .before .before .before .before .before .before .before .before .before .before .before .update .ensures
 
 pub update-tokenized-spec : {M : Type 1} → statement M

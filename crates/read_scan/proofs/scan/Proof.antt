@@ -1,6 +1,5 @@
 use borrow.Author.Needs.{needs}
 use Rattle.read_scan.proofs.Scanning.{Scanning, Stands, scan-small, scan-start, stands, scan-go, scan-stop, scan-bad, scan-end, scan-long}
-use Rattle.read_state.specs.Flags.{formOf}
 use lib.ListN.{length}
 use native.Mathlib.Omega.{arith}
 use Prim.Native.Nat.{_-_}
@@ -8,7 +7,7 @@ use Rattle.read_scan.proofs.scan.Statement.{statement}
 use Rattle.read_scan.proofs.scan.Tie as tie
 
 abbrev Inv-loop : tie.InvT-loop
-Inv-loop form line state₀ counts₀ at₀ state counts at = Scanning (formOf form) line state counts at
+Inv-loop form line state₀ counts₀ at₀ state counts at = Scanning form line state counts at
 
 abbrev μ-loop : tie.MeasureT-loop
 μ-loop form line state₀ counts₀ at₀ state counts at = length line - at

@@ -5,10 +5,11 @@ use sentence::Refusal;
 ghost use mathlib.Core.Path.{_≡_};
 ghost use Prim.Native.Nat.{_+_, _≤_};
 ghost use lib.ListN.{length};
+ghost use Rattle.sentence.specs.Forms.{letter};
 ghost use Rattle.convert_buffers.specs.Between.{refuses};
 ghost use Rattle.convert.specs.Convert.{conversion};
 ghost use Rattle.respelling.specs.Puts.{Puts, Into};
-ghost use Rattle.respelling.specs.Respell.{letter, printed, answer};
+ghost use Rattle.respelling.specs.Respell.{printed, answer};
 
 // The number of a letter's form.
 fn form(b: u8) -> u32

@@ -1,5 +1,6 @@
 -- `write::write_partial_annotation_text` meets its contract. Assumes nothing.
 use mathlib.Core.Path.{refl}
+use Rattle.sentence.specs.declared.Form.the-variants.{Partial as partial}
 use Rattle.sheet.proofs.Look.{checked}
 use Rattle.write_items.proofs.Room.{short-none}
 use Rattle.write.proofs.Laws.{put-13, put-12, put-line}

@@ -4,14 +4,13 @@ use native.Mathlib.Omega.{arith}
 use borrow.Author.Needs.{needs}
 use lib.ListN.{length}
 use Rattle.sheet.specs.Layout.{buffers}
-use Rattle.read_state.specs.Flags.{formOf}
 use Rattle.read_fill.proofs.Laying.{Laying, Span, lay-start, lay-stands, lay-small, lay-span, lay-some, lay-turning, lay-go, lay-finishing, lay-done, lay-long}
 use Rattle.read_fill.proofs.unchecked.fill.Statement.{statement}
 use Rattle.read_fill.proofs.unchecked.fill.Tie as tie
 
 abbrev Inv-loop : tie.InvT-loop
 Inv-loop form columns line text₀ types₀ boundaries₀ char-pos₀ byte-pos₀ cell-starts₀ cell-lengths₀ tag-bytes₀ tables state₀ counts₀ at₀ text types boundaries char-pos byte-pos cell-starts cell-lengths tag-bytes state counts at =
-    Laying (formOf form) columns line state counts at (buffers text₀ types₀ boundaries₀ char-pos₀ byte-pos₀ cell-starts₀ cell-lengths₀ tag-bytes₀) (buffers text types boundaries char-pos byte-pos cell-starts cell-lengths tag-bytes)
+    Laying form columns line state counts at (buffers text₀ types₀ boundaries₀ char-pos₀ byte-pos₀ cell-starts₀ cell-lengths₀ tag-bytes₀) (buffers text types boundaries char-pos byte-pos cell-starts cell-lengths tag-bytes)
 
 abbrev μ-loop : tie.MeasureT-loop
 μ-loop form columns line text₀ types₀ boundaries₀ char-pos₀ byte-pos₀ cell-starts₀ cell-lengths₀ tag-bytes₀ tables state₀ counts₀ at₀ text types boundaries char-pos byte-pos cell-starts cell-lengths tag-bytes state counts at =

@@ -1,5 +1,5 @@
 use borrow.Author.Needs.{needs}
-use Rattle.read_state.specs.Flags.{formOf, markOf, stepped}
+use Rattle.read_state.specs.Flags.{markOf, stepped}
 use Rattle.sentence.specs.Reading.{ordinary}
 use Rattle.read_state.proofs.State.behind.Statement.{statement}
 use Rattle.read_state.proofs.State.behind.Tie as tie
@@ -23,15 +23,15 @@ refused-requires : tie.Need-refused-requires
 refused-requires c κs = search needs
 
 returns : tie.Need-returns
-unfolding ordinary formOf markOf stepped
+unfolding ordinary markOf stepped
 returns c = cc
 
 returns-2 : tie.Need-returns-2
-unfolding ordinary formOf markOf stepped
+unfolding ordinary markOf stepped
 returns-2 c = cc
 
 returns-3 : tie.Need-returns-3
-unfolding ordinary formOf markOf stepped
+unfolding ordinary markOf stepped
 returns-3 c = cc
 
 pub behind-spec : {M : Type 1} → statement M

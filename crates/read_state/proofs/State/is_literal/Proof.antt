@@ -1,4 +1,4 @@
-use Rattle.read_state.specs.Flags.{formOf, literal}
+use Rattle.read_state.specs.Flags.{literal}
 use borrow.Author.Needs.{needs}
 use Rattle.read_state.proofs.State.is_literal.Statement.{statement}
 use Rattle.read_state.proofs.State.is_literal.Tie as tie
@@ -19,15 +19,15 @@ awaits-requires-2 : tie.Need-awaits-requires-2
 awaits-requires-2 c κs = search needs
 
 returns : tie.Need-returns
-unfolding formOf literal
+unfolding literal
 returns c = cc
 
 returns-2 : tie.Need-returns-2
-unfolding formOf literal
+unfolding literal
 returns-2 c = cc
 
 returns-3 : tie.Need-returns-3
-unfolding formOf literal
+unfolding literal
 returns-3 c = cc
 
 pub is-literal-spec : {M : Type 1} → statement M

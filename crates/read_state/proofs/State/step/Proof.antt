@@ -28,8 +28,8 @@ ordinary-requires-2 c κs = search needs
 returns-3 : tie.Need-returns-3
 returns-3 c = search hands-literal
 
-kind-requires : tie.Need-kind-requires
-kind-requires c κs = search needs
+meaning-requires : tie.Need-meaning-requires
+meaning-requires c κs = search needs
 
 enum-known-m : tie.Need-enum-known-m
 enum-known-m c = search needs
@@ -78,7 +78,7 @@ step-spec =
     is-literal-requires
     ordinary-requires-2
     returns-3
-    kind-requires
+    meaning-requires
     enum-known-m
     boundary-requires
     enum-told

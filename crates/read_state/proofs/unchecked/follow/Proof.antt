@@ -19,8 +19,8 @@ ordinary-requires-2 c κs = search needs
 returns-2 : tie.Need-returns-2
 returns-2 c = search hands-literal
 
-kind-requires : tie.Need-kind-requires
-kind-requires c κs = search needs
+meaning-requires : tie.Need-meaning-requires
+meaning-requires c κs = search needs
 
 enum-known-m : tie.Need-enum-known-m
 enum-known-m c = search needs
@@ -67,7 +67,7 @@ follow-spec =
     is-literal-requires
     ordinary-requires-2
     returns-2
-    kind-requires
+    meaning-requires
     enum-known-m
     boundary-requires
     enum-told

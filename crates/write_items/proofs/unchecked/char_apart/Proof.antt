@@ -1,6 +1,6 @@
 -- `pieces::unchecked::char_apart` meets its contract. Assumes nothing.
 use Prim.Native.Nat.{_+_}
-use Rattle.sentence.specs.Reading.{partial}
+use Rattle.sentence.specs.declared.Form.the-variants.{Partial as partial}
 use Rattle.write_escape.specs.Wrote.{wrote-both}
 use Rattle.write_items.specs.Items.{rowAt, rowLine, textAt}
 use Rattle.write_items.proofs.Tags.{first-fits, then-fits}

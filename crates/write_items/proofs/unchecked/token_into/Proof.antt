@@ -1,5 +1,5 @@
 -- `pieces::unchecked::token_into` meets its contract. Assumes nothing.
-use Rattle.sentence.specs.Reading.{tokenized}
+use Rattle.sentence.specs.declared.Form.the-variants.{Tokenized as tokenized}
 use Rattle.sentence.specs.Writing.{escape}
 use Rattle.write_items.proofs.Tags.{text-first, text-then, text-both}
 use borrow.Author.Needs.{needs}

@@ -1,6 +1,6 @@
 -- `respelling::unchecked::line::form` meets its contract. Assumes nothing.
 use Rattle.laws.proofs.Tests.{tests}
-use Rattle.respelling.specs.Respell.{letter}
+use Rattle.sentence.specs.Forms.{letter}
 use Rattle.respelling.proofs.unchecked.line.form.Statement.{statement}
 use Rattle.respelling.proofs.unchecked.line.form.Tie as tie
 

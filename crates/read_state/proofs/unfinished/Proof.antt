@@ -1,8 +1,7 @@
 use Rattle.sentence.specs.Reading.{unfinished}
-use Rattle.read_state.specs.Flags.{formOf}
 use borrow.Author.Needs.{needs}
-use Rattle.read_state.proofs.Form.unfinished.Statement.{statement}
-use Rattle.read_state.proofs.Form.unfinished.Tie as tie
+use Rattle.read_state.proofs.unfinished.Statement.{statement}
+use Rattle.read_state.proofs.unfinished.Tie as tie
 
 enum-told : tie.Need-enum-told
 enum-told c = search needs
@@ -14,15 +13,15 @@ enum-told-3 : tie.Need-enum-told-3
 enum-told-3 c = search needs
 
 returns : tie.Need-returns
-unfolding formOf unfinished
+unfolding unfinished
 returns c = cc
 
 returns-2 : tie.Need-returns-2
-unfolding formOf unfinished
+unfolding unfinished
 returns-2 c = cc
 
 returns-3 : tie.Need-returns-3
-unfolding formOf unfinished
+unfolding unfinished
 returns-3 c = cc
 
 pub unfinished-spec : {M : Type 1} → statement M

@@ -1,8 +1,8 @@
 use Rattle.sentence.specs.Reading.{kind}
-use Rattle.read_state.specs.Flags.{formOf, kindIn}
+use Rattle.read_state.specs.Flags.{kindIn}
 use borrow.Author.Needs.{needs}
-use Rattle.read_state.proofs.Form.kind.Statement.{statement}
-use Rattle.read_state.proofs.Form.kind.Tie as tie
+use Rattle.read_state.proofs.meaning.Statement.{statement}
+use Rattle.read_state.proofs.meaning.Tie as tie
 
 enum-told : tie.Need-enum-told
 enum-told c = search needs
@@ -20,19 +20,19 @@ partial-kind-requires : tie.Need-partial-kind-requires
 partial-kind-requires c κs = search needs
 
 returns : tie.Need-returns
-unfolding formOf kind kindIn
+unfolding kind kindIn
 returns c = cc
 
 returns-2 : tie.Need-returns-2
-unfolding formOf kind kindIn
+unfolding kind kindIn
 returns-2 c = cc
 
 returns-3 : tie.Need-returns-3
-unfolding formOf kind kindIn
+unfolding kind kindIn
 returns-3 c = cc
 
-pub kind-spec : {M : Type 1} → statement M
-kind-spec =
+pub meaning-spec : {M : Type 1} → statement M
+meaning-spec =
     tie.close
     (tie.spec
     enum-told
