@@ -15,7 +15,7 @@ same-length : tie.Need-same-length
 same-length c = search needs
 
 returns : tie.Need-returns
-returns c = search keys
+returns c = keys _ _ (c .before .before .before .note-key .ensures) (c .tell-number .ensures)
 
 pub ighdelmur-key-spec : {M : Type 1} → statement M
 ighdelmur-key-spec = tie.close (tie.spec note-key-requires tell-number-requires same-length returns)

@@ -18,7 +18,7 @@ same-length : tie.Need-same-length
 same-length c = search needs
 
 returns : tie.Need-returns
-returns c = search withholds
+returns c = withholds _ _ _ _ _ _ (c .before .before .before .before .write-withheld-text .ensures) (c .before .nearest-in .ensures) (c .tell-number .ensures)
 
 pub ighdelmur-withhold-spec : {M : Type 1} → statement M
 ighdelmur-withhold-spec =
