@@ -1,5 +1,4 @@
--- The answers of the withheld copy, by what the check, the range and the lengths say.
--- Assumes nothing.
+-- The answers of the withheld copy, by what the check, the range and the lengths say. Assumes nothing.
 use Prim.Native.Nat.{ℕ, _≤_, _<_}
 use mathlib.Core.Path.{_≡_, refl, sym, ap, subst, _∙_}
 use mathlib.Core.Bool.{Bool, true, false, not, _||_, false≢true}
@@ -35,7 +34,7 @@ inside b e n q = on (ltb e b) refl q
     on true p q = absurd (false≢true (sym q))
     on false p q = (ltb-false e b p, ltb-false n e q)
 
--- a range that starts before its end, which is one of n characters
+-- and one that starts up to its end, which is up to n, is one
 pub is-range : {b e n : ℕ} → b ≤ e → e ≤ n → noRange b e n ≡ false
 is-range {b} {e} {n} h l = rw (le-ltb e b h) (le-ltb n e l)
 
