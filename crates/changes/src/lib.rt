@@ -1,4 +1,7 @@
 // Changes of a sentence that lies in lent buffers.
+use sentence::NO_BLANK_ROOM;
+use sentence::NO_ROOM;
+use sentence::NO_SHEET;
 use sentence::Refusal;
 use sheet::Answer;
 use sheet::Record;
@@ -32,10 +35,7 @@ pub fn set_default(
         (lentAfter text types boundaries «char_pos» «byte_pos» «cell_starts» «cell_lengths» «tag_bytes») ⌝ }
 {
     if !blank_fits(text.len(), types.len(), char_pos.len(), byte_pos.len()) {
-        return Answer::Refused(Refusal {
-            number: 15,
-            place: 0,
-        });
+        return Answer::Refused(NO_BLANK_ROOM);
     }
     text[0] = b' ';
     types[0] = 6;
@@ -80,16 +80,10 @@ pub fn set_boundary(
         cell_lengths,
         tag_bytes,
     ) {
-        return Answer::Refused(Refusal {
-            number: 13,
-            place: 0,
-        });
+        return Answer::Refused(NO_SHEET);
     }
     if (i >= r.n - 1) | (value > 2) {
-        return Answer::Refused(Refusal {
-            number: 14,
-            place: i,
-        });
+        return Answer::Refused(Refusal::outside(i));
     }
     unchecked::set_boundary(
         r,
@@ -134,23 +128,14 @@ pub fn reset_tags(
         cell_lengths,
         tag_bytes,
     ) {
-        return Answer::Refused(Refusal {
-            number: 13,
-            place: 0,
-        });
+        return Answer::Refused(NO_SHEET);
     }
     if c > 4096 {
-        return Answer::Refused(Refusal {
-            number: 14,
-            place: c,
-        });
+        return Answer::Refused(Refusal::outside(c));
     }
     let cells = r.n * c;
     if (cells > cell_starts.len()) | (cells > cell_lengths.len()) {
-        return Answer::Refused(Refusal {
-            number: 11,
-            place: 0,
-        });
+        return Answer::Refused(NO_ROOM);
     }
     unchecked::reset_tags(
         r,

@@ -53,9 +53,9 @@ between-outside f g room x = on (read f x)
 
 module _ (reader writer : ℕ) (x out : List ℕ) (at : ℕ) {b d : Bool} (e : b ≡ unknownForms reader writer) (f : d ≡ outOfRange (length out) at) where
   -- 14
-  pub outside : b ≡ false → d ≡ true → Plain (conversion reader writer x (length out) at) at out (Refused (refusal 14 0)) out
+  pub outside : {q : Refusal} → q ≡ refusal 14 0 → b ≡ false → d ≡ true → Plain (conversion reader writer x (length out) at) at out (Refused q) out
   unfolding conversion
-  outside t u = refuses-plain at out (rw (sym e ∙ t, sym f ∙ u) (between-outside (formOf reader) (formOf writer) (length out - at) x))
+  outside i t u = rw i (refuses-plain at out (rw (sym e ∙ t, sym f ∙ u) (between-outside (formOf reader) (formOf writer) (length out - at) x)))
 
   passed : b ≡ false → d ≡ false → conversion reader writer x (length out) at ≡ between false false (formOf reader) (formOf writer) (length out - at) x
   unfolding conversion

@@ -1,6 +1,7 @@
 // The conversion of a line from one form to another, for programs and for the host.
 use convert_buffers::Converted;
 use sentence::Form;
+use sentence::NO_FORM;
 use sentence::Refusal;
 ghost use mathlib.Core.Path.{_≡_};
 ghost use lib.ListN.{length};
@@ -30,16 +31,10 @@ pub fn convert(reader: u32, writer: u32, line: &[u8], out: &mut [u8], at: usize)
     let unknown = unknown_forms(reader, writer);
     let outside = out_of_range(out.len(), at);
     if unknown {
-        return Converted::Refused(Refusal {
-            number: 16,
-            place: 0,
-        });
+        return Converted::Refused(NO_FORM);
     }
     if outside {
-        return Converted::Refused(Refusal {
-            number: 14,
-            place: 0,
-        });
+        return Converted::Refused(Refusal::outside(0));
     }
     let from = Form::of(reader);
     let to = Form::of(writer);

@@ -10,6 +10,7 @@ use Rattle.laws.specs.If.{if_then_else_, if-true, if-false}
 use Rattle.write_escape.specs.Wrote.{Lined}
 use Rattle.write_items.specs.Items.{shortOf}
 use Rattle.write_items.proofs.Room.{short-none, short-some}
+use Rattle.sentence.specs.declared.Refusal.{Refusal}
 use Rattle.sentence.specs.Sentence.{Sentence}
 use Rattle.sentence.specs.declared.Form.{Form}
 use Rattle.sentence.specs.declared.Form.the-variants.{Raw as raw, Tokenized as tokenized, Partial as partial}
@@ -23,11 +24,11 @@ use Rattle.convert_buffers.specs.declared.Converted.the-variants.{Wrote,
 
 -- n is the length that is lacking
 module _ (g : Form) (s : Sentence) (out : List ℕ) {n : ℕ} (e : n ≡ shortOf (length out) (length (written g s))) where
-  pub writing-short : 0 < n → Converts (λ (c : Converted). c) (writing g (length out) s) 0 out (Refused (refusal 12 n)) out
+  pub writing-short : {q : Refusal} → q ≡ refusal 12 n → 0 < n → Converts (λ (c : Converted). c) (writing g (length out) s) 0 out (Refused q) out
   unfolding writing verdict answerOf outputOf
-  writing-short h =
+  writing-short i h =
       let k = short-some (length out) (length (written g s)) e h in
-      rw (if-true _ _ _ (lt-ltb (length out) (length (written g s)) (k .1)), k .0) (record { answer = refl; output = refl })
+      rw (if-true _ _ _ (lt-ltb (length out) (length (written g s)) (k .1))) (record { answer = ap Refused (i ∙ ap (refusal 12) (k .0)); output = refl })
 
   pub writing-room : n ≤ 0 → length (written g s) ≤ length out
   writing-room h = short-none (length out) (length (written g s)) e h

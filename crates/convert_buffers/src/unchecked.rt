@@ -5,7 +5,7 @@ mod writing;
 use crate::Converted;
 use crate::unchecked::through::through;
 use sentence::Form;
-use sentence::Refusal;
+use sentence::NO_ROOM;
 use sheet::Answer;
 use sheet::Record;
 ghost use mathlib.Core.Path.{_≡_};
@@ -123,10 +123,7 @@ pub fn between(reader: Form, writer: Form, line: &[u8], out: &mut [u8]) -> Conve
     match read_scan::scan(reader, line) {
         Answer::Sentence(r) => {
             if 2048 < r.cells {
-                return Converted::Refused(Refusal {
-                    number: 11,
-                    place: 0,
-                });
+                return Converted::Refused(NO_ROOM);
             }
             if (line.len() <= 256) & (r.cells <= 256) {
                 return short(reader, writer, r, line, out);

@@ -37,7 +37,11 @@ use Rattle.convert_buffers.specs.declared.Converted.the-variants as converted
 use Rattle.convert.specs.Convert.{unknownForms, outOfRange, conversion}
 use Rattle.convert.proofs.Lengths.{written-small}
 use Rattle.convert.proofs.Codes.{small-place}
-use Rattle.exports.specs.Exports.{noReader, NearAnswer, NearNumber, nearest, nearestIn, NearNext}
+use Rattle.exports.specs.Exports.{Near, noReader, NearAnswer, NearNumber, nearest, nearestIn, NearNext}
+
+-- ---- a refusal at 0
+pub near-start : {n : ℕ} {q : Refusal} → q ≡ refusal n 0 → Near q
+near-start e = rw e (omega arith)
 
 -- ---- a reader's: a conversion of the line is refused at the same place
 read-place : (f : ℕ) (x : List ℕ) (n p : ℕ) → noReader f ≡ false → read (formOf f) x ≡ refused n p → p < 2 ^ 32

@@ -55,11 +55,11 @@ module _ (f : ℕ) (x : List ℕ) (d : Buffers) (ns : List ℕ) {b : Bool} (i : 
   unfolding readFirst readCode readNumbers hostAnswer hostLeaves verdict if_then_else_
   reads-16 h q = record { answer-is = rw (sym i ∙ h) q; buffers-are = rw (sym i ∙ h) (same-self d); numbers-are = rw (sym i ∙ h) }
 
-  pub reads-14 : {c : ℕ} → b ≡ false → length ns < 5 → c ≡ refusalCode (refusal 14 0) → HostReads f x d ns c d ns
+  pub reads-14 : {z : Refusal} {c : ℕ} → b ≡ false → length ns < 5 → z ≡ refusal 14 0 → c ≡ refusalCode z → HostReads f x d ns c d ns
   unfolding readFirst readCode readNumbers hostAnswer hostLeaves verdict if_then_else_
-  reads-14 h l q =
+  reads-14 h l j q =
       let t = lt-ltb (length ns) 5 l in
-      record { answer-is = rw (sym i ∙ h, t) q; buffers-are = rw (sym i ∙ h, t) (same-self d); numbers-are = rw (sym i ∙ h, t) }
+      record { answer-is = rw (sym i ∙ h, t) (q ∙ ap refusalCode j); buffers-are = rw (sym i ∙ h, t) (same-self d); numbers-are = rw (sym i ∙ h, t) }
 
   pub reads-on : {g : Form} {a : Answer} {e : Buffers} {c : ℕ} {ns′ : List ℕ} → b ≡ false → 5 ≤ length ns → g ≡ formOf f
       → ReadDoes (read g x) d a e → ReadTold a ns c ns′ → HostReads f x d ns c e ns′
@@ -139,9 +139,9 @@ keys r d w q = record { answer-is = q ∙ ap numberCode (w .answer-is); out-is =
 
 -- ---- a step
 module _ (s : Step) (d : List ℕ) where
-  pub steps-14 : {c : ℕ} → length d < 2 → c ≡ refusalCode (refusal 14 0) → Tells (next.Is s) d c d
+  pub steps-14 : {z : Refusal} {c : ℕ} → length d < 2 → z ≡ refusal 14 0 → c ≡ refusalCode z → Tells (next.Is s) d c d
   unfolding spanned stepCode stepSpan verdict if_then_else_
-  steps-14 l q = let t = lt-ltb (length d) 2 l in record { answer-is = rw t q; span-is = rw t }
+  steps-14 l j q = let t = lt-ltb (length d) 2 l in record { answer-is = rw t (q ∙ ap refusalCode j); span-is = rw t }
 
   pub steps-served : {t : Span} → 2 ≤ length d → s ≡ Serves t → Tells (next.Is s) d 1 (set (set d 0 (t .start)) 1 (t .end))
   unfolding spanned stepCode stepSpan verdict if_then_else_

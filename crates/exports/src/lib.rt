@@ -1,6 +1,7 @@
 // The host's calls besides the conversion: a line read into lent buffers, a sheet written, its withheld copy, its key, a step of the token cursor. Each
 // answers one number; a refusal is 2^63 plus 256 times its place plus its number.
 use sentence::Form;
+use sentence::NO_FORM;
 use sentence::Refusal;
 use sheet::Answer;
 use sheet::Number;
@@ -86,16 +87,10 @@ pub extern "C" fn ighdelmur_read(
         (now (numbers .entry)) a (lentAfter text types boundaries «char_pos» «byte_pos» «cell_starts» «cell_lengths» «tag_bytes») (now (numbers .exit)) ⌝ }
 {
     if no_reader(form) {
-        return code(Refusal {
-            number: 16,
-            place: 0,
-        });
+        return code(NO_FORM);
     }
     if numbers.len() < 5 {
-        return code(Refusal {
-            number: 14,
-            place: 0,
-        });
+        return code(Refusal::outside(0));
     }
     let answer = read_load::load(
         Form::of(form),
@@ -194,10 +189,7 @@ pub extern "C" fn ighdelmur_write(
         (lentBefore text types boundaries «char_pos» «byte_pos» «cell_starts» «cell_lengths» «tag_bytes») (now (out .entry)) a (now (out .exit)) ⌝ }
 {
     if no_writer(form) {
-        return code(Refusal {
-            number: 16,
-            place: 0,
-        });
+        return code(NO_FORM);
     }
     let answer = write_as(
         Form::of(form),
@@ -339,10 +331,7 @@ fn tell_step(step: Step, span: &mut [u64]) -> u64
     ensures { λ a. ⌜ Tells (Is step) (now (span .entry)) a (now (span .exit)) ⌝ }
 {
     if span.len() < 2 {
-        return code(Refusal {
-            number: 14,
-            place: 0,
-        });
+        return code(Refusal::outside(0));
     }
     match step {
         Step::Serves(t) => {

@@ -1,4 +1,5 @@
 // Look-ups in a sentence that lies in lent buffers. Each answers 13 where there is no sheet, then 14 where a number is out of range.
+use sentence::NO_SHEET;
 use sentence::Refusal;
 use sheet::Number;
 use sheet::Record;
@@ -37,16 +38,10 @@ pub fn char_to_str_pos(
         cell_lengths,
         tag_bytes,
     ) {
-        return Number::Refused(Refusal {
-            number: 13,
-            place: 0,
-        });
+        return Number::Refused(NO_SHEET);
     }
     if i > r.n {
-        return Number::Refused(Refusal {
-            number: 14,
-            place: i,
-        });
+        return Number::Refused(Refusal::outside(i));
     }
     let p = unchecked::char_to_str_pos(
         r,
@@ -90,16 +85,10 @@ pub fn str_to_char_pos(
         cell_lengths,
         tag_bytes,
     ) {
-        return Number::Refused(Refusal {
-            number: 13,
-            place: 0,
-        });
+        return Number::Refused(NO_SHEET);
     }
     if p > r.b {
-        return Number::Refused(Refusal {
-            number: 14,
-            place: p,
-        });
+        return Number::Refused(Refusal::outside(p));
     }
     unchecked::str_to_char_pos(
         r,
@@ -142,16 +131,10 @@ pub fn boundary(
         cell_lengths,
         tag_bytes,
     ) {
-        return Number::Refused(Refusal {
-            number: 13,
-            place: 0,
-        });
+        return Number::Refused(NO_SHEET);
     }
     if i >= r.n - 1 {
-        return Number::Refused(Refusal {
-            number: 14,
-            place: i,
-        });
+        return Number::Refused(Refusal::outside(i));
     }
     let m = unchecked::boundary(
         r,
@@ -196,16 +179,10 @@ pub fn tag(
         cell_lengths,
         tag_bytes,
     ) {
-        return Slice::Refused(Refusal {
-            number: 13,
-            place: 0,
-        });
+        return Slice::Refused(NO_SHEET);
     }
     if (row >= r.n) | (column >= r.columns) {
-        return Slice::Refused(Refusal {
-            number: 14,
-            place: row,
-        });
+        return Slice::Refused(Refusal::outside(row));
     }
     unchecked::tag(
         r,
@@ -250,16 +227,10 @@ pub fn surface(
         cell_lengths,
         tag_bytes,
     ) {
-        return Slice::Refused(Refusal {
-            number: 13,
-            place: 0,
-        });
+        return Slice::Refused(NO_SHEET);
     }
     if (start >= end) | (end > r.n) {
-        return Slice::Refused(Refusal {
-            number: 14,
-            place: start,
-        });
+        return Slice::Refused(Refusal::outside(start));
     }
     unchecked::surface(
         r,

@@ -49,10 +49,7 @@ pub fn str_to_char_pos(
     if char_pos[i] as usize == p {
         return Number::Is(i);
     }
-    Number::Refused(Refusal {
-        number: 14,
-        place: p,
-    })
+    Number::Refused(Refusal::outside(p))
 }
 
 // The number of a boundary.

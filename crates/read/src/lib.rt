@@ -1,6 +1,6 @@
 // The readers: a line of each form into eight lent buffers.
 use sentence::Form;
-use sentence::Refusal;
+use sentence::NO_BLANK_ROOM;
 use sheet::Answer;
 use sheet::Record;
 ghost use Rattle.sentence.specs.declared.Form.the-variants.{Raw as raw, Tokenized as tokenized, Partial as partial};
@@ -43,10 +43,7 @@ fn update(
         cell_lengths.len(),
         tag_bytes.len(),
     ) {
-        return Answer::Refused(Refusal {
-            number: 15,
-            place: 0,
-        });
+        return Answer::Refused(NO_BLANK_ROOM);
     }
     match read_load::load(
         form,

@@ -2,7 +2,7 @@
 pub mod unchecked; // unchecked.rt: for a record of a sentence
 
 use sentence::Form;
-use sentence::Refusal;
+use sentence::NO_ROOM;
 use sheet::Answer;
 ghost use Rattle.sentence.specs.Reading.{read};
 ghost use Rattle.sheet.specs.Layout.{lentAfter, lentBefore};
@@ -39,10 +39,7 @@ pub fn load(
                 cell_lengths.len(),
                 tag_bytes.len(),
             ) {
-                return Answer::Refused(Refusal {
-                    number: 11,
-                    place: 0,
-                });
+                return Answer::Refused(NO_ROOM);
             }
             read_fill::unchecked::fill(
                 form,

@@ -1,4 +1,5 @@
 // The boundary decision: boundaries by scores.
+use sentence::NO_SHEET;
 use sentence::Refusal;
 use sheet::Answer;
 use sheet::Record;
@@ -34,16 +35,10 @@ pub fn predict(
         cell_lengths,
         tag_bytes,
     ) {
-        return Answer::Refused(Refusal {
-            number: 13,
-            place: 0,
-        });
+        return Answer::Refused(NO_SHEET);
     }
     if scores.len() != r.n - 1 {
-        return Answer::Refused(Refusal {
-            number: 14,
-            place: scores.len(),
-        });
+        return Answer::Refused(Refusal::outside(scores.len()));
     }
     unchecked::predict(
         r,

@@ -8,6 +8,7 @@ use lib.Dec.{ltb}
 use borrow.Author.Tests.{lt-ltb, le-ltb, not-true, not-false}
 use lib.ListN.{length}
 use Rattle.laws.specs.If.{if_then_else_}
+use Rattle.sentence.specs.declared.Refusal.{Refusal}
 use Rattle.sentence.specs.Sentence.{marks, count}
 use Rattle.sentence.specs.Writing.{tokensFrom, Served, serves, done, nextToken}
 use Rattle.sentence.specs.Refusals.{refusal, verdict}
@@ -48,11 +49,11 @@ module _ (r : Record) (d : Buffers) (b : Bool) (tested : b ≡ isSheet r d) wher
   counted : b ≡ true → (k : ℕ) → k ≡ length (tokensFrom (marksIn (r .n) (d .boundaries-buf)) 0) → k ≡ length (tokensOf r d)
   counted q k e = rw (marks-held (is-sheet r d (sym tested ∙ q))) at e
 
-  pub count-12 : b ≡ true → (room k : ℕ) → k ≡ length (tokensFrom (marksIn (r .n) (d .boundaries-buf)) 0) → room < k → RefusedNumber (refusal 12 k) ≡ countOf r d room
+  pub count-12 : b ≡ true → (room k : ℕ) {u : Refusal} → u ≡ refusal 12 k → k ≡ length (tokensFrom (marksIn (r .n) (d .boundaries-buf)) 0) → room < k → RefusedNumber u ≡ countOf r d room
   unfolding countOf listOrder verdict if_then_else_
-  count-12 q room k e l =
+  count-12 q room k i e l =
       let c = counted q k e in
-      rw (sym tested ∙ q, sym c, lt-ltb room k l)
+      rw (sym tested ∙ q, sym c, lt-ltb room k l) (ap RefusedNumber i)
 
   pub count-served : b ≡ true → (room k : ℕ) → k ≡ length (tokensFrom (marksIn (r .n) (d .boundaries-buf)) 0) → k ≤ room → IsNumber k ≡ countOf r d room
   unfolding countOf listOrder verdict if_then_else_

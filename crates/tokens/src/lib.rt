@@ -1,6 +1,7 @@
 // Tokens: a cursor that each step hands back, and the list of all tokens of a sentence.
 pub mod unchecked; // unchecked.rt: for a sheet that was checked
 
+use sentence::NO_SHEET;
 use sentence::Refusal;
 use sheet::Number;
 use sheet::Record;
@@ -53,10 +54,7 @@ pub fn next_token(
         cell_lengths,
         tag_bytes,
     ) {
-        return Next::Refused(Refusal {
-            number: 13,
-            place: 0,
-        });
+        return Next::Refused(NO_SHEET);
     }
     Next::Is(unchecked::next_token(boundaries, r.n, p))
 }
@@ -87,17 +85,11 @@ fn needed(
         cell_lengths,
         tag_bytes,
     ) {
-        return Number::Refused(Refusal {
-            number: 13,
-            place: 0,
-        });
+        return Number::Refused(NO_SHEET);
     }
     let count = unchecked::count_tokens(boundaries, r.n);
     if room < count {
-        return Number::Refused(Refusal {
-            number: 12,
-            place: count,
-        });
+        return Number::Refused(Refusal::short(count));
     }
     Number::Is(count)
 }

@@ -1,5 +1,6 @@
 // The writers of any sheet: each answers the length of the line that it wrote at the front of the output, or 13, or 12 at the length needed; with a
 // range 14 at its start comes between.
+use sentence::NO_SHEET;
 use sentence::Refusal;
 use sheet::Number;
 use sheet::Record;
@@ -21,30 +22,21 @@ ghost use Rattle.write.specs.Answers.{noRange, Written, Withholds, Keyed
 fn no_sheet() -> Number
     ensures { λ a. ⌜ a ≡ Refused (refusal 13 0) ⌝ }
 {
-    Number::Refused(Refusal {
-        number: 13,
-        place: 0,
-    })
+    Number::Refused(NO_SHEET)
 }
 
 // 12: the output has too little room for the line, whose length is the place.
 fn too_short(needed: usize) -> Number
     ensures { λ a. ⌜ a ≡ Refused (refusal 12 needed) ⌝ }
 {
-    Number::Refused(Refusal {
-        number: 12,
-        place: needed,
-    })
+    Number::Refused(Refusal::short(needed))
 }
 
 // 14: the range is none of the sentence's; its start is the place.
 fn out_of_range(start: usize) -> Number
     ensures { λ a. ⌜ a ≡ Refused (refusal 14 start) ⌝ }
 {
-    Number::Refused(Refusal {
-        number: 14,
-        place: start,
-    })
+    Number::Refused(Refusal::outside(start))
 }
 
 // Whether a range is none of n characters: its start is past its end, or its end past them.

@@ -1,5 +1,7 @@
 -- `changes::reset_tags` meets its contract. Assumes nothing.
+use mathlib.Core.Path.{ap, _∙_}
 use native.Mathlib.Omega.{arith}
+use Rattle.sheet.specs.declared.Answer.the-variants as answer
 use Rattle.changes.proofs.Outcome.{lays-refused, lays-served}
 use Rattle.changes.proofs.Resets.{reset-broken, reset-outside, product-few, reset-lacks, reset-served, reset-room}
 use borrow.Author.Needs.{needs}
@@ -18,6 +20,9 @@ same-length-2 c = search needs
 returns : tie.Need-returns
 returns c = lays-refused _ _ _ _ (reset-broken _ _ _ _ (c .before .check .ensures) (c .if1 .taken))
 
+outside-requires : tie.Need-outside-requires
+outside-requires c κs = search needs
+
 same-length-3 : tie.Need-same-length-3
 same-length-3 c = search needs
 
@@ -25,7 +30,7 @@ same-length-4 : tie.Need-same-length-4
 same-length-4 c = search needs
 
 returns-2 : tie.Need-returns-2
-returns-2 c = lays-refused _ _ _ _ (reset-outside _ _ _ _ (c .before .before .check .ensures) (c .before .if1 .left) (c .if2 .taken))
+returns-2 k = let c = k .before in lays-refused _ _ _ _ (ap answer.Refused (k .outside .ensures) ∙ reset-outside _ _ _ _ (c .before .before .check .ensures) (c .before .if1 .left) (c .if2 .taken))
 
 mul-cells : tie.Need-mul-cells
 mul-cells c = omega (arith, product-few _ _ _ _ (c .before .before .before .check .ensures) (c .before .before .if1 .left) (c .before .if2 .left))
@@ -59,6 +64,7 @@ reset-tags-spec =
     same-length
     same-length-2
     returns
+    outside-requires
     same-length-3
     same-length-4
     returns-2

@@ -1,7 +1,7 @@
 -- `changes::set_boundary` meets its contract. Assumes nothing.
 use Prim.Native.Nat.{_-_, _≤_, _<_}
 use lib.Dec.{leb, ltb}
-use mathlib.Core.Path.{refl}
+use mathlib.Core.Path.{refl, ap, _∙_}
 use borrow.Author.Tests.{leb-false, ltb-false}
 use native.Mathlib.Omega.{arith}
 use Rattle.sheet.specs.declared.Answer.the-variants as answer
@@ -25,12 +25,15 @@ returns c = lays-refused _ _ _ _ (broken answer.Refused _ _ _ _ _ (c .before .ch
 sub-if2 : tie.Need-sub-if2
 sub-if2 c = omega (arith, bounds (checked _ _ _ (c .before .before .check .ensures) (c .before .if1 .left)))
 
+outside-requires : tie.Need-outside-requires
+outside-requires c κs = search needs
+
 same-length-2 : tie.Need-same-length-2
 same-length-2 c = search needs
 
 returns-2 : tie.Need-returns-2
 unfolding boundaryAnswer
-returns-2 c = lays-refused _ _ _ _ (outside answer.Refused _ _ _ _ _ (c .before .before .before .check .ensures) (c .before .before .if1 .left) (rw (← (bounds (checked _ _ _ (c .before .before .before .check .ensures) (c .before .before .if1 .left)) .n-is)) (c .if2 .taken)))
+returns-2 k = let c = k .before in lays-refused _ _ _ _ (ap answer.Refused (k .outside .ensures) ∙ outside answer.Refused _ _ _ _ _ (c .before .before .before .check .ensures) (c .before .before .if1 .left) (rw (← (bounds (checked _ _ _ (c .before .before .before .check .ensures) (c .before .before .if1 .left)) .n-is)) (c .if2 .taken)))
 
 -- where both tests were passed
 ranged : (c : tie.Else2) → let a = c .before .before .before .before .before .before .before .before .before .before .before .before .before .args in (a .i < a .r .n - 1) × (a .value ≤ 2)
@@ -57,6 +60,7 @@ set-boundary-spec =
     same-length
     returns
     sub-if2
+    outside-requires
     same-length-2
     returns-2
     set-boundary-requires

@@ -16,6 +16,9 @@ out-of-range-requires c κs = search needs
 returns : tie.Need-returns
 returns c = search unknown
 
+outside-requires : tie.Need-outside-requires
+outside-requires c κs = search needs
+
 returns-2 : tie.Need-returns-2
 returns-2 c = search outside
 
@@ -68,6 +71,7 @@ convert-spec =
     unknown-forms-requires
     out-of-range-requires
     returns
+    outside-requires
     returns-2
     of-requires
     of-requires-2

@@ -46,10 +46,7 @@ fn tokenized_as(
         out.len(),
     );
     if needed > 0 {
-        return Converted::Refused(Refusal {
-            number: 12,
-            place: needed,
-        });
+        return Converted::Refused(Refusal::short(needed));
     }
     let n = tokenized_into(
         r,
@@ -97,10 +94,7 @@ fn partial_as(
         out.len(),
     );
     if needed > 0 {
-        return Converted::Refused(Refusal {
-            number: 12,
-            place: needed,
-        });
+        return Converted::Refused(Refusal::short(needed));
     }
     let n = partial_into(
         r,

@@ -1,5 +1,5 @@
 -- `exports::ighdelmur_read` meets its contract. Assumes nothing.
-use Rattle.exports.proofs.Places.{near-read}
+use Rattle.exports.proofs.Places.{near-start, near-read}
 use Rattle.exports.proofs.Told.{reads-16, reads-14, reads-on}
 use borrow.Author.Needs.{needs}
 use Rattle.exports.proofs.ighdelmur_read.Statement.{statement}
@@ -14,8 +14,11 @@ code-requires c κs = search needs
 returns : tie.Need-returns
 returns c = search reads-16
 
+outside-requires : tie.Need-outside-requires
+outside-requires c κs = search needs
+
 code-requires-2 : tie.Need-code-requires-2
-code-requires-2 c κs = search needs
+code-requires-2 c κs = search near-start
 
 returns-2 : tie.Need-returns-2
 returns-2 c = search reads-14
@@ -66,6 +69,7 @@ ighdelmur-read-spec =
     no-reader-requires
     code-requires
     returns
+    outside-requires
     code-requires-2
     returns-2
     of-requires

@@ -1,11 +1,15 @@
 -- `exports::tell_step` meets its contract. Assumes nothing.
+use Rattle.exports.proofs.Places.{near-start}
 use Rattle.exports.proofs.Told.{steps-14, steps-served, steps-done}
 use borrow.Author.Needs.{needs}
 use Rattle.exports.proofs.tell_step.Statement.{statement}
 use Rattle.exports.proofs.tell_step.Tie as tie
 
+outside-requires : tie.Need-outside-requires
+outside-requires c κs = search needs
+
 code-requires : tie.Need-code-requires
-code-requires c κs = search needs
+code-requires c κs = search near-start
 
 returns : tie.Need-returns
 returns c = search steps-14
@@ -47,6 +51,7 @@ pub tell-step-spec : {M : Type 1} → statement M
 tell-step-spec =
     tie.close
     (tie.spec
+    outside-requires
     code-requires
     returns
     enum-known-step

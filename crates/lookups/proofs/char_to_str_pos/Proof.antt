@@ -1,5 +1,5 @@
 -- `lookups::char_to_str_pos` meets its contract. Assumes nothing.
-use mathlib.Core.Path.{ap}
+use mathlib.Core.Path.{ap, _∙_}
 use borrow.Author.Tests.{lt-ltb, le-ltb}
 use Rattle.sheet.specs.declared.Number.the-variants.{Is, Refused}
 use Rattle.sheet.proofs.Look.{broken, outside, inside, checked, bounds}
@@ -15,9 +15,12 @@ returns : tie.Need-returns
 unfolding charToStrPos
 returns c = broken Refused _ _ _ _ _ (c .before .check .ensures) (c .if1 .taken)
 
+outside-requires : tie.Need-outside-requires
+outside-requires c κs = search needs
+
 returns-2 : tie.Need-returns-2
 unfolding charToStrPos
-returns-2 c = outside Refused _ _ _ _ _ (c .before .before .before .check .ensures) (c .before .before .if1 .left) (rw (← (bounds (checked _ _ _ (c .before .before .before .check .ensures) (c .before .before .if1 .left)) .n-is)) (lt-ltb _ _ (c .if2 .taken)))
+returns-2 k = let c = k .before in ap Refused (k .outside .ensures) ∙ outside Refused _ _ _ _ _ (c .before .before .before .check .ensures) (c .before .before .if1 .left) (rw (← (bounds (checked _ _ _ (c .before .before .before .check .ensures) (c .before .before .if1 .left)) .n-is)) (lt-ltb _ _ (c .if2 .taken)))
 
 char-to-str-pos-requires : tie.Need-char-to-str-pos-requires
 char-to-str-pos-requires c κs = ((checked _ _ _ (c .before .before .before .check .ensures) (c .before .before .if1 .left)), c .if2 .left)
@@ -28,4 +31,4 @@ returns-3 c = inside Refused _ _ _ _ _ (c .before .before .before .before .check
 
 pub char-to-str-pos-spec : {M : Type 1} → statement M
 char-to-str-pos-spec =
-    tie.close (tie.spec check-requires returns returns-2 char-to-str-pos-requires returns-3)
+    tie.close (tie.spec check-requires returns outside-requires returns-2 char-to-str-pos-requires returns-3)

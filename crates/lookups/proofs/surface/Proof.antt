@@ -1,4 +1,5 @@
 -- `lookups::surface` meets its contract. Assumes nothing.
+use mathlib.Core.Path.{ap, _∙_}
 use Prim.Native.Nat.{_≤_}
 use lib.Dec.{leb, ltb}
 -- `lookups::surface` meets its contract. Assumes nothing.
@@ -18,9 +19,12 @@ returns : tie.Need-returns
 unfolding surfaceAt
 returns c = broken Refused _ _ _ _ _ (c .before .check .ensures) (c .if1 .taken)
 
+outside-requires : tie.Need-outside-requires
+outside-requires c κs = search needs
+
 returns-2 : tie.Need-returns-2
 unfolding surfaceAt
-returns-2 c = outside Refused _ _ _ _ _ (c .before .before .before .check .ensures) (c .before .before .if1 .left) (rw (← (bounds (checked _ _ _ (c .before .before .before .check .ensures) (c .before .before .if1 .left)) .n-is)) (c .if2 .taken))
+returns-2 k = let c = k .before in ap Refused (k .outside .ensures) ∙ outside Refused _ _ _ _ _ (c .before .before .before .check .ensures) (c .before .before .if1 .left) (rw (← (bounds (checked _ _ _ (c .before .before .before .check .ensures) (c .before .before .if1 .left)) .n-is)) (c .if2 .taken))
 
 -- where both tests were passed
 ranged : (c : tie.Else2) → let a = c .before .before .before .before .before .before .before .before .before .before .before .before .args in (a .start ≤ a .r .n) × (a .end ≤ a .r .n)
@@ -37,4 +41,4 @@ unfolding surfaceAt
 returns-3 c = inside Refused _ _ _ _ _ (c .before .before .before .before .check .ensures) (c .before .before .before .if1 .left) (rw (← (bounds (checked _ _ _ (c .before .before .before .before .check .ensures) (c .before .before .before .if1 .left)) .n-is)) (c .before .if2 .left)) _ (c .surface .ensures)
 
 pub surface-spec : {M : Type 1} → statement M
-surface-spec = tie.close (tie.spec check-requires returns returns-2 surface-requires returns-3)
+surface-spec = tie.close (tie.spec check-requires returns outside-requires returns-2 surface-requires returns-3)

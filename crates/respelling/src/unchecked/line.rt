@@ -1,6 +1,7 @@
 // The program's answer to one line.
 use crate::unchecked::decimal::put_number;
 use convert_buffers::Converted;
+use sentence::NO_FORM;
 use sentence::Refusal;
 ghost use mathlib.Core.Path.{_≡_};
 ghost use Prim.Native.Nat.{_+_, _≤_};
@@ -72,14 +73,7 @@ pub fn put_answer(line: &[u8], out: &mut [u8], at: usize) -> usize
     ensures { λ e. ⌜ e ≤ at + 8194 ⌝ }
 {
     if line.len() < 2 {
-        return put_refusal(
-            Refusal {
-                number: 16,
-                place: 0,
-            },
-            out,
-            at,
-        );
+        return put_refusal(NO_FORM, out, at);
     }
     put_conversion(form(line[0]), form(line[1]), &line[2..], out, at)
 }

@@ -1,5 +1,5 @@
 -- `scores::predict` meets its contract. Assumes nothing.
-use mathlib.Core.Path.{refl}
+use mathlib.Core.Path.{refl, ap, _∙_}
 use borrow.Author.Tests.{eq-eqb, ne-eqb}
 use native.Mathlib.Omega.{arith}
 use Rattle.sheet.specs.declared.Answer.the-variants as answer
@@ -26,9 +26,12 @@ sub-if2 c = omega (arith, bounds (checked _ _ _ (c .before .before .check .ensur
 same-length-2 : tie.Need-same-length-2
 same-length-2 c = search needs
 
+outside-requires : tie.Need-outside-requires
+outside-requires c κs = search needs
+
 returns-2 : tie.Need-returns-2
 unfolding scoreAnswer
-returns-2 c = lays-refused _ _ _ _ (outside answer.Refused _ _ _ _ _ (c .before .before .before .check .ensures) (c .before .before .if1 .left) (rw (← (bounds (checked _ _ _ (c .before .before .before .check .ensures) (c .before .before .if1 .left)) .n-is), ne-eqb _ _ (c .if2 .taken))))
+returns-2 k = let c = k .before in lays-refused _ _ _ _ (ap answer.Refused (k .outside .ensures) ∙ outside answer.Refused _ _ _ _ _ (c .before .before .before .check .ensures) (c .before .before .if1 .left) (rw (← (bounds (checked _ _ _ (c .before .before .before .check .ensures) (c .before .before .if1 .left)) .n-is), ne-eqb _ _ (c .if2 .taken))))
 
 predict-requires : tie.Need-predict-requires
 predict-requires c κs = ((checked _ _ _ (c .before .before .before .before .check .ensures) (c .before .before .before .if1 .left)), c .before .if2 .left)
@@ -48,6 +51,7 @@ predict-spec =
     same-length
     returns
     sub-if2
+    outside-requires
     same-length-2
     returns-2
     predict-requires

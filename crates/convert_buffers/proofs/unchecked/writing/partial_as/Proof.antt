@@ -7,6 +7,9 @@ use Rattle.convert_buffers.proofs.unchecked.writing.partial_as.Tie as t
 partial-short-requires : tie.Need-partial-short-requires
 partial-short-requires c κs = search needs
 
+short-requires : tie.Need-short-requires
+short-requires c κs = search needs
+
 returns : tie.Need-returns
 returns c = search writing-short
 
@@ -21,4 +24,4 @@ returns-2 c = search writing-done
 
 pub partial-as-spec : {M : Type 1} → statement M
 partial-as-spec =
-    tie.close (tie.spec partial-short-requires returns partial-into-requires same-length returns-2)
+    tie.close (tie.spec partial-short-requires short-requires returns partial-into-requires same-length returns-2)

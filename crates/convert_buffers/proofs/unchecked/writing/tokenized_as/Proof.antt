@@ -7,6 +7,9 @@ use Rattle.convert_buffers.proofs.unchecked.writing.tokenized_as.Tie as
 tokenized-short-requires : tie.Need-tokenized-short-requires
 tokenized-short-requires c κs = search needs
 
+short-requires : tie.Need-short-requires
+short-requires c κs = search needs
+
 returns : tie.Need-returns
 returns c = search writing-short
 
@@ -22,4 +25,10 @@ returns-2 c = search writing-done
 pub tokenized-as-spec : {M : Type 1} → statement M
 tokenized-as-spec =
     tie.close
-    (tie.spec tokenized-short-requires returns tokenized-into-requires same-length returns-2)
+    (tie.spec
+    tokenized-short-requires
+    short-requires
+    returns
+    tokenized-into-requires
+    same-length
+    returns-2)
