@@ -11,7 +11,7 @@ use Rattle.sentence.specs.Sentence.{code, Sentence, text, marks, rows, pad}
 use Rattle.sentence.specs.Writing.{setBoundary, resetTags}
 use Rattle.sheet.specs.declared.Record.{Record}
 use Rattle.sheet.specs.Eight.{Which, the-text, the-types, the-boundaries, the-char-pos, the-byte-pos, the-cell-starts, the-cell-lengths, the-tag-bytes, pick}
-use Rattle.sheet.specs.Layout.{Buffers, buffers, recordOf, tagsOf, cellsOf, cellStarts, bytesOf, lay, laid, Holds, markOf}
+use Rattle.sheet.specs.Layout.{Buffers, withBoundaries, withCells, recordOf, tagsOf, cellsOf, cellStarts, bytesOf, lay, laid, Holds, markOf}
 use Rattle.sheet.proofs.Eights.{in-order, one, pick-pairwise}
 use Rattle.sheet.proofs.Held.{prefixes-held, Prefix, boundaries-held}
 use Rattle.sheet.proofs.Look.{bounds, prefix-whole, prefix-length}
@@ -111,7 +111,7 @@ module _ {r : Record} {d : Buffers} {s : Sentence} (h : Holds r d s) where
   -- ---- what the calls leave
   pub boundary-lays : (i v : ℕ) → i < r .n - 1 → v ≤ 2
       → Laid (setBoundary i (markOf v) s) d (answer.Sentence r)
-      (buffers (d .text-buf) (d .types-buf) (set (d .boundaries-buf) i v) (d .char-pos-buf) (d .byte-pos-buf) (d .cell-starts-buf) (d .cell-lengths-buf) (d .tag-bytes-buf))
+      (withBoundaries (set (d .boundaries-buf) i v) d)
   unfolding lay recordOf setBoundary
   boundary-lays i v k l =
       let t = setBoundary i (markOf v) s in
@@ -126,7 +126,7 @@ module _ {r : Record} {d : Buffers} {s : Sentence} (h : Holds r d s) where
 
   pub reset-lays : (c : ℕ) (b l : List ℕ) → b ≡ replicate (r .n * c) 0 ++ drop (r .n * c) (d .cell-starts-buf) → l ≡ replicate (r .n * c) 0 ++ drop (r .n * c) (d .cell-lengths-buf)
       → Laid (resetTags c s) d (answer.Sentence (record { n = r .n; b = r .b; columns = c; cells = r .n * c; g = 0 }))
-      (buffers (d .text-buf) (d .types-buf) (d .boundaries-buf) (d .char-pos-buf) (d .byte-pos-buf) b l (d .tag-bytes-buf))
+      (withCells b l d)
   unfolding lay recordOf resetTags
   reset-lays c v l e f =
       let t = resetTags c s in

@@ -9,8 +9,8 @@ use Rattle.sentence.specs.declared.Form.{Form}
 use Rattle.sentence.specs.Reading.{Result}
 use Rattle.sentence.specs.Writing.{written}
 use Rattle.sentence.specs.Refusals.{check, verdict}
-use Rattle.sheet.specs.Eight.{Eight, eight, Each}
-use Rattle.sheet.specs.Layout.{Buffers}
+use Rattle.sheet.specs.Eight.{Eight, eight}
+use Rattle.sheet.specs.Layout.{Buffers, AtLeast}
 use Rattle.sheet.specs.declared.Record.{Record}
 use Rattle.sheet.specs.declared.Answer.the-variants as answer
 use Rattle.read_scan.specs.Scan.{scanned}
@@ -27,7 +27,7 @@ most n m = eight n n n (n + 1) (n + 1) m m n
 
 -- each buffer has that room
 pub record Wide (n m : ℕ) (d : Buffers) : Type 0 where
-  pub wide : Each (λ k l. k ≤ length l) (most n m) d
+  pub wide : AtLeast (most n m) d
 
 -- a sentence written into so much room: the line, or 12 at its length
 unfoldable pub writing : Form → ℕ → Sentence → Outcome

@@ -16,7 +16,7 @@ use Rattle.sheet.specs.declared.Record.{Record}
 use Rattle.sheet.specs.declared.Answer.the-variants as answer
 use Rattle.sheet.specs.Eight.{the-text, the-types, the-char-pos, the-byte-pos}
 use Rattle.sheet.proofs.Eights.{in-order}
-use Rattle.sheet.specs.Layout.{Buffers, buffers, recordOf, lay, laid, Holds}
+use Rattle.sheet.specs.Layout.{Buffers, withBoundaries, recordOf, lay, laid, Holds}
 use Rattle.sentence.specs.Sentence.{code, Sentence, text, marks, rows}
 use Rattle.sentence.specs.Writing.{marked, resetTags, decision, scored}
 use Rattle.changes.specs.Changes.{Laid}
@@ -60,7 +60,7 @@ module _ {r : Record} {d : Buffers} {s : Sentence} (h : Holds r d s) where
   pub scores-lay : (zs : List ℤ) (marked-as : List ℕ) → length zs ≡ r .n - 1
       → marked-as ≡ map code (map decision zs) ++ drop (length zs) (d .boundaries-buf)
       → Laid (scored zs s) d (answer.Sentence (record { n = r .n; b = r .b; columns = 0; cells = 0; g = 0 }))
-      (buffers (d .text-buf) (d .types-buf) marked-as (d .char-pos-buf) (d .byte-pos-buf) (d .cell-starts-buf) (d .cell-lengths-buf) (d .tag-bytes-buf))
+      (withBoundaries marked-as d)
   unfolding recordOf lay laid scored resetTags
   scores-lay zs marked-as l e =
       let t = scored zs s in

@@ -20,9 +20,9 @@ use Rattle.sheet_check.specs.Passes.{isText, areMarks, isCell, cellsTo, areCell
 use Rattle.sheet_check.proofs.Says.{same-self, Plain, plain-is, is-plain, TextIs, text-is}
 use Rattle.sheet.specs.declared.Record.{Record}
 use Rattle.sheet.specs.Eight.{Which, the-text, the-types, the-boundaries, the-char-pos, the-byte-pos, the-cell-starts, the-cell-lengths, the-tag-bytes, Eight, pick, each, Each}
-use Rattle.sheet.specs.Layout.{Buffers, recordOf, tagsOf, cellsOf, cellStarts, bytesOf, lay, takes, enough, roomFor, Front, Holds, slices, rowsBy, markOf, link, spell, Sheet}
+use Rattle.sheet.specs.Layout.{Buffers, recordOf, tagsOf, cellsOf, cellStarts, bytesOf, lay, takes, enough, roomFor, AtLeast, Front, Holds, slices, rowsBy, markOf, link, spell, Sheet}
 use Rattle.sheet.specs.Check.{inLimits, isLaid, Room, isSheet}
-use Rattle.sheet.proofs.Eights.{every, one, pick-each, all-true, true-all}
+use Rattle.sheet.proofs.Eights.{in-order, every, one, pick-each, all-true, true-all}
 use Rattle.sheet.proofs.Held.{prefixes-held, length-marks, length-cellStarts, length-bytesOf, bytes-tagsOf, bytes-same, some-bytes, n-held, b-held, columns-held, cells-held, g-held, text-held, types-held, boundaries-held, char-pos-held, byte-pos-held, cell-starts-held, cell-lengths-held, tag-bytes-held, text-chars-held, cells-chars-held}
 
 -- ---- boundaries
@@ -166,11 +166,11 @@ is-enough : (n l : Eight ℕ) → Each _≤_ n l → enough n l ≡ true
 unfolding enough
 is-enough n l h = all-true _ (every (λ i. le-leb (pick n i) (pick l i) (one h i)))
 
-pub has-room : (r : Record) (d : Buffers) → roomFor r d ≡ true → Each (λ n l. n ≤ length l) (takes r) d
+pub has-room : (r : Record) (d : Buffers) → roomFor r d ≡ true → AtLeast (takes r) d
 unfolding roomFor
 has-room r d h = every (λ i. rw (pick-each length d i) at (one (enough-is (takes r) (each length d) h) i))
 
-pub room-has : (r : Record) (d : Buffers) → Each (λ n l. n ≤ length l) (takes r) d → roomFor r d ≡ true
+pub room-has : (r : Record) (d : Buffers) → AtLeast (takes r) d → roomFor r d ≡ true
 unfolding roomFor
 room-has r d h = is-enough (takes r) (each length d) (every (λ i. rw (pick-each length d i) (one h i)))
 
@@ -297,16 +297,16 @@ module _ (r : Record) (d : Buffers) (cs : List ℕ) (ms : List Mark) (ts : List 
         record {
           formed = well-formed;
           record-is = λ i. record { n = n-is i; b = b-is i; columns = r .columns; cells = cells-is i; g = g-is i };
-          lies = record {
-            text-is = front the-text (rw (k .text-is) (h .text .bytes));
-            types-is = front the-types (rw (k .text-is) (h .text .types-are));
-            boundaries-is = front the-boundaries (rw (k .marks-is) (h .marks-are));
-            char-pos-is = front the-char-pos (rw (k .text-is) (h .text .starts-are));
-            byte-pos-is = front the-byte-pos (rw (k .text-is) (h .text .numbers-are));
-            cell-starts-is = front the-cell-starts (rw (k .rows-is, h .rows-are .cells) (h .cells .starts));
-            cell-lengths-is = front the-cell-lengths (rw (k .rows-is, h .rows-are .cells) (h .cells .lengths));
-            tag-bytes-is = front the-tag-bytes (rw (k .rows-is) bytes-are);
-          };
+          lies =
+              in-order
+              (front the-text (rw (k .text-is) (h .text .bytes)))
+              (front the-types (rw (k .text-is) (h .text .types-are)))
+              (front the-boundaries (rw (k .marks-is) (h .marks-are)))
+              (front the-char-pos (rw (k .text-is) (h .text .starts-are)))
+              (front the-byte-pos (rw (k .text-is) (h .text .numbers-are)))
+              (front the-cell-starts (rw (k .rows-is, h .rows-are .cells) (h .cells .starts)))
+              (front the-cell-lengths (rw (k .rows-is, h .rows-are .cells) (h .cells .lengths)))
+              (front the-tag-bytes (rw (k .rows-is) bytes-are));
         }
 
 how-many-cells : (r : Record) (d : Buffers) (ts : List Tag) → Limits r → Room r d → cellStarts 0 ts ≡ take (r .cells) (d .cell-starts-buf) → length ts ≡ r .n * r .columns

@@ -17,7 +17,7 @@ pub use Rattle.sheet_check.proofs.Says.{length-starts, length-numbers}
 use Rattle.sheet.specs.declared.Record.{Record}
 use Rattle.sheet.specs.Eight.{Which, pick, Every}
 use Rattle.sheet.specs.Layout.{Buffers, recordOf, tagsOf, cellsOf, cellStarts, bytesOf, lay, laid, takes, roomFor, Front, Holds, slices, rowsBy, markOf, link, spell}
-use Rattle.sheet.proofs.Eights.{every, one, pick-pairwise}
+use Rattle.sheet.proofs.Eights.{in-order, every, one, pick-pairwise}
 
 pub laid-holds : (s : Sentence) (d : Buffers) → Formed s → roomFor (recordOf s) d ≡ true → Holds (recordOf s) (laid s d) s
 unfolding laid
@@ -141,16 +141,15 @@ unfolding lay recordOf
 fronts-long s f =
     let n = length-marks (s .cells) in
     let c = length-cellsOf (s .columns) (rows s) (rows-are (s .columns) (s .cells) (f .cells-are)) ∙ ap (λ (i : ℕ). i * s .columns) (length-rows (s .cells)) in
-    record {
-      text-is = length-encodes (text s);
-      types-is = length-map (text s) typeOf;
-      boundaries-is = length-map (marks s) code ∙ omega arith;
-      char-pos-is = length-starts 0 (text s);
-      byte-pos-is = length-numbers 0 (text s);
-      cell-starts-is = length-cellStarts 0 (cellsOf (s .columns) (rows s)) ∙ c;
-      cell-lengths-is = length-map (cellsOf (s .columns) (rows s)) size ∙ c;
-      tag-bytes-is = length-bytesOf (tagsOf (rows s)) ∙ bytes-tagsOf (rows s);
-    }
+    in-order
+    (length-encodes (text s))
+    (length-map (text s) typeOf)
+    (length-map (marks s) code ∙ omega arith)
+    (length-starts 0 (text s))
+    (length-numbers 0 (text s))
+    (length-cellStarts 0 (cellsOf (s .columns) (rows s)) ∙ c)
+    (length-map (cellsOf (s .columns) (rows s)) size ∙ c)
+    (length-bytesOf (tagsOf (rows s)) ∙ bytes-tagsOf (rows s))
 
 -- ---- what the record and each buffer have where a sentence is held
 -- a buffer starts with a front of n elements

@@ -22,8 +22,7 @@ use Rattle.sentence.specs.Refusals.{refusal, Check, check, verdict, sheetOrder}
 use Rattle.sentence.specs.Writing.{surface}
 use Rattle.sentence.proofs.Trips.{pad-length}
 use Rattle.sheet.specs.declared.Record.{Record}
-use Rattle.sheet.specs.Eight.{Each}
-use Rattle.sheet.specs.Layout.{Buffers, takes, cellsOf, cellStarts, bytesOf, Holds, Sheet, markOf}
+use Rattle.sheet.specs.Layout.{Buffers, takes, AtLeast, cellsOf, cellStarts, bytesOf, Holds, Sheet, markOf}
 use Rattle.sheet.specs.Check.{isSheet}
 use Rattle.sheet.proofs.Exact.{is-sheet}
 use Rattle.sheet.proofs.Eights.{every, one}
@@ -250,7 +249,7 @@ pub record Bounds (r : Record) (d : Buffers) (s : Sentence) : Type 0 where
   pub b-few : r .b ≤ 4096
   pub columns-few : r .columns ≤ 4096
   pub g-few : r .g ≤ 65535
-  pub room : Each (λ n l. n ≤ length l) (takes r) d
+  pub room : AtLeast (takes r) d
 
 module _ {r : Record} {d : Buffers} {s : Sentence} (h : Holds r d s) where
   pub bounds : Bounds r d s

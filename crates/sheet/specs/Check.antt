@@ -2,11 +2,10 @@
 use Prim.Native.Nat.{_+_, _-_, _*_, _≤_}
 use mathlib.Core.Bool.{Bool, _&&_}
 use lib.Dec.{eqb, leb}
-use lib.ListN.{length, take}
+use lib.ListN.{take}
 use Rattle.sheet_check.specs.Passes.{isText, areMarks, areCells}
 use Rattle.sheet.specs.declared.Record.{Record}
-use Rattle.sheet.specs.Eight.{Each}
-use Rattle.sheet.specs.Layout.{Buffers, takes, roomFor}
+use Rattle.sheet.specs.Layout.{Buffers, takes, roomFor, AtLeast}
 
 -- N is at least 1 and at most B, B and columns at most 4,096, G at most 65,535; there are N times columns cells
 unfoldable pub inLimits : Record → Bool
@@ -22,7 +21,7 @@ isLaid r d =
 -- N is at least 1, and there is room for what the record counts
 pub record Room (r : Record) (d : Buffers) : Type 0 where
   pub some : 1 ≤ r .n
-  pub room : Each (λ n l. n ≤ length l) (takes r) d
+  pub room : AtLeast (takes r) d
 
 -- the record and the buffers are a sheet
 unfoldable pub isSheet : Record → Buffers → Bool

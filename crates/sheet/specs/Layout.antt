@@ -1,5 +1,5 @@
 -- How a sentence lies in eight lent buffers, and which sentence a record and buffers hold.
-use Prim.Native.Nat.{ℕ, zero, suc, _+_, _-_, _*_}
+use Prim.Native.Nat.{ℕ, zero, suc, _+_, _-_, _*_, _≤_}
 use mathlib.Core.Path.{_≡_}
 use mathlib.Core.Bool.{Bool}
 use mathlib.Core.List.{List, [], _∷_, _++_, map}
@@ -107,6 +107,10 @@ enough n l = all (λ i. leb (pick n i) (pick l i))
 -- the buffers have the room that a record takes
 unfoldable pub roomFor : Record → Buffers → Bool
 roomFor r d = enough (takes r) (each length d)
+
+-- each buffer is at least so long
+abbrev pub AtLeast : Eight ℕ → Buffers → Type 0
+AtLeast n d = Each (λ k l. k ≤ length l) n d
 
 -- a buffer starts with a list
 abbrev pub Front : List ℕ → List ℕ → Type 0

@@ -1,5 +1,4 @@
 -- `passage::unchecked::long` meets its contract: its arrays are wide enough for 4,096 bytes and 2,048 cells. Assumes nothing.
-use Rattle.sheet.proofs.Eights.{in-order}
 use borrow.Author.Needs.{needs}
 use Rattle.convert_buffers.proofs.unchecked.long.Statement.{statement}
 use Rattle.convert_buffers.proofs.unchecked.long.Tie as tie
@@ -32,7 +31,7 @@ through-requires : tie.Need-through-requires
 through-requires c κs = (
   search needs,
   search needs,
-  record { wide = in-order (search needs) (search needs) (search needs) (search needs) (search needs) (search needs) (search needs) (search needs) },
+  search needs,
 )
 
 same-length : tie.Need-same-length

@@ -1,5 +1,4 @@
 -- `passage::unchecked::middle` meets its contract: its arrays are wide enough for 512 bytes and 512 cells. Assumes nothing.
-use Rattle.sheet.proofs.Eights.{in-order}
 use borrow.Author.Needs.{needs}
 use Rattle.convert_buffers.proofs.unchecked.middle.Statement.{statement}
 use Rattle.convert_buffers.proofs.unchecked.middle.Tie as tie
@@ -32,7 +31,7 @@ through-requires : tie.Need-through-requires
 through-requires c κs = (
   search needs,
   search needs,
-  record { wide = in-order (search needs) (search needs) (search needs) (search needs) (search needs) (search needs) (search needs) (search needs) },
+  search needs,
 )
 
 same-length : tie.Need-same-length
