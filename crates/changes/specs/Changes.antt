@@ -52,7 +52,8 @@ lackCells d n = ltb (length (d .cell-starts-buf)) n || ltb (length (d .cell-leng
 -- c is at most 4,096, and there is room for N times c cells: 13, 14, 11
 unfoldable pub resetAnswer : Bool → Sentence → ℕ → Buffers → Answer
 resetAnswer good s c d =
-    verdict answer.Refused (check (not good) 13 0 ∷ check (ltb 4096 c) 14 c ∷ check (lackCells d (count s * c)) 11 0 ∷ []) (answer.Sentence (recordOf (resetTags c s)))
+    verdict answer.Refused (check (not good) 13 0 ∷ check (ltb 4096 c) 14 c ∷ check (lackCells d (count s * c)) 11 0 ∷ [])
+    (answer.Sentence (recordOf (resetTags c s)))
 
 -- what `reset_tags` answers, and the buffers e that it leaves of d
 abbrev pub TagsReset : Record → Buffers → ℕ → Answer → Buffers → Type 0

@@ -10,7 +10,8 @@ use Rattle.utf8.specs.Utf8.{utf8-2, utf8-3, utf8-4, charOf, walk, wholes, value
 use Rattle.utf8.specs.Text.{text-of}
 use Rattle.sentence.specs.Sentence.{textOf, marksOf, rowsOf, onto, cut, pad}
 use Rattle.sentence.specs.Forms.{formOf, letter}
-use Rattle.sentence.specs.Reading.{kind, ordinary, inside, opening, step, advance, unfinished, ending, finish, push, follow, run, before, add, gather, built, placed, read}
+use Rattle.sentence.specs.Reading.{kind, ordinary, inside, opening, step, advance, unfinished, ending, finish, push, follow, run, before, add, gather}
+use Rattle.sentence.specs.Reading.{built, placed, read}
 use Rattle.sentence.specs.Writing.{tokens, escapeAs, escape, writeTags, writeToken, joined, sign, shown, writePartial, line}
 use Rattle.sentence.specs.Refusals.{refusal, verdict, hostOrder}
 use Rattle.convert_buffers.specs.Between.{refuses, overfull, between}

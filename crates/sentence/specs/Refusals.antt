@@ -35,6 +35,7 @@ updateOrder refuse small lacks serve r = verdict refuse (check small 15 0 ∷ []
 
 -- the host's call: 16, 14, what the reader refuses, 11, then 12 at the length needed
 unfoldable pub hostOrder : {A : Type 0} → (Refusal → A) → Bool → Bool → (Sentence → Bool) → (Sentence → Bool) → (Sentence → ℕ) → (Sentence → A) → Result → A
-hostOrder refuse unknown outside lacks short needed serve (refused n p) = verdict refuse (check unknown 16 0 ∷ check outside 14 0 ∷ check true n p ∷ []) (refuse (refusal n p))
+hostOrder refuse unknown outside lacks short needed serve (refused n p) =
+    verdict refuse (check unknown 16 0 ∷ check outside 14 0 ∷ check true n p ∷ []) (refuse (refusal n p))
 hostOrder refuse unknown outside lacks short needed serve (sentence s) =
     verdict refuse (check unknown 16 0 ∷ check outside 14 0 ∷ check (lacks s) 11 0 ∷ check (short s) 12 (needed s) ∷ []) (serve s)

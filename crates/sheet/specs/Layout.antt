@@ -7,7 +7,8 @@ use lib.Dec.{leb}
 use lib.ListN.{length, take, drop, getD}
 use Rattle.laws.specs.Put.{over}
 use Rattle.utf8.specs.Utf8.{scalars, encodes, size}
-use Rattle.sentence.specs.Sentence.{Tag, Mark, none, word, unknown, code, Cells, final, cell, Sentence, text, marks, rows, count, types, charPositions, bytePositions, cut, pad, tagBytes, Formed}
+use Rattle.sentence.specs.Sentence.{Tag, Mark, none, word, unknown, code, Cells, final, cell, Sentence, text, marks, rows, count, types, charPositions}
+use Rattle.sentence.specs.Sentence.{bytePositions, cut, pad, tagBytes, Formed}
 use Rattle.sheet.specs.declared.Record.{Record}
 use Rattle.sheet.specs.Eight.{Eight, pick, eight, each, pairwise, all, Each}
 use denote.Ref.{RefT}

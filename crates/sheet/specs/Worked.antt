@@ -9,7 +9,8 @@ use Rattle.utf8.specs.Utf8.{utf8-2, utf8-3, utf8-4, charOf, walk, wholes, value
 use Rattle.utf8.specs.Text.{text-of}
 use Rattle.sentence.specs.Sentence.{word, cell, final, Sentence, rowsOf, onto, cut, pad}
 use Rattle.sentence.specs.declared.Form.the-variants.{Tokenized as tokenized}
-use Rattle.sentence.specs.Reading.{kind, ordinary, inside, opening, step, advance, unfinished, ending, finish, push, follow, run, before, add, gather, sentence, built, placed, read}
+use Rattle.sentence.specs.Reading.{kind, ordinary, inside, opening, step, advance, unfinished, ending, finish, push, follow, run, before, add, gather}
+use Rattle.sentence.specs.Reading.{sentence, built, placed, read}
 use Rattle.sheet.specs.Layout.{cellsOf, cellStarts, lay}
 
 -- the line
@@ -21,7 +22,8 @@ unfoldable pub table : Sentence
 table = record { cells = cell (chr "a") ([] ∷ quoted "x" ∷ []) word (final (chr "b") (quoted "y" ∷ [])); columns = 2 }
 
 pub table-reads : read tokenized table-line ≡ sentence table
-unfolding table quoted encode encodes if_then_else_ utf8-2 utf8-3 utf8-4 charOf walk wholes values onto cut kind ordinary inside opening step advance unfinished ending finish push follow run before add gather built placed read
+unfolding table quoted encode encodes if_then_else_ utf8-2 utf8-3 utf8-4 charOf walk wholes values onto cut kind ordinary inside opening step advance
+    unfinished ending finish push follow run before add gather built placed read
 table-reads = refl
 
 pub table-starts : lay table .cell-starts-buf ≡ 0 ∷ 0 ∷ 1 ∷ 2 ∷ []

@@ -1,4 +1,4 @@
--- `changes::reset_tags` meets its contract. Assumes nothing.
+-- `changes::reset_tags` meets its contract.
 use mathlib.Core.Path.{ap, _∙_}
 use native.Mathlib.Omega.{arith}
 use Rattle.sheet.specs.declared.Answer.the-variants as answer

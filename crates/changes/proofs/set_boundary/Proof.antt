@@ -1,4 +1,4 @@
--- `changes::set_boundary` meets its contract. Assumes nothing.
+-- `changes::set_boundary` meets its contract.
 use Prim.Native.Nat.{_-_, _≤_, _<_}
 use lib.Dec.{leb, ltb}
 use mathlib.Core.Path.{refl, ap, _∙_}

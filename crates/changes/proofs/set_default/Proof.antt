@@ -1,4 +1,4 @@
--- `changes::set_default` meets its contract. Assumes nothing.
+-- `changes::set_default` meets its contract.
 use borrow.Author.Needs.{needs}
 use lib.ListN.{length-set}
 use native.Mathlib.Omega.{arith}

@@ -1,4 +1,4 @@
--- `convert::convert` meets its contract: 16 and 14 are tested, and the rest is the part behind the place. Assumes nothing.
+-- `convert::convert` meets its contract: 16 and 14 are tested, and the rest is the part behind the place.
 use Prim.Native.Nat.{_+_, _≤_}
 use native.Mathlib.Omega.{arith}
 use lib.ListN.{length}

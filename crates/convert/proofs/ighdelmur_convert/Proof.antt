@@ -1,4 +1,4 @@
--- `convert::ighdelmur_convert` meets its contract: places are small, so that the number fits. Assumes nothing.
+-- `convert::ighdelmur_convert` meets its contract: places are small, so that the number fits.
 use Prim.Native.Nat.{_^_, _<_}
 use native.Mathlib.Omega.{arith}
 use Rattle.convert.proofs.Codes.{small-place, code-wrote, code-refused}

@@ -1,4 +1,4 @@
--- `convert::out_of_range` meets its contract. Assumes nothing.
+-- `convert::out_of_range` meets its contract.
 use mathlib.Core.Path.{refl}
 use Rattle.convert.specs.Convert.{outOfRange}
 use Rattle.convert.proofs.out_of_range.Statement.{statement}

@@ -1,4 +1,4 @@
--- `convert::unknown_forms` meets its contract. Assumes nothing.
+-- `convert::unknown_forms` meets its contract.
 use mathlib.Core.Path.{refl}
 use Rattle.convert.specs.Convert.{unknownForms}
 use Rattle.convert.proofs.unknown_forms.Statement.{statement}

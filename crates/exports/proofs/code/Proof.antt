@@ -1,4 +1,4 @@
--- `exports::code` meets its contract: places are small, so that the number fits. Assumes nothing.
+-- `exports::code` meets its contract: places are small, so that the number fits.
 use mathlib.Core.Path.{refl}
 use Rattle.convert.specs.Convert.{codeOf}
 use Rattle.exports.specs.Exports.{refusalCode}

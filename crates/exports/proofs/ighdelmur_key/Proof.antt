@@ -1,4 +1,4 @@
--- `exports::ighdelmur_key` meets its contract. Assumes nothing.
+-- `exports::ighdelmur_key` meets its contract.
 use Rattle.exports.proofs.Places.{near-keyed}
 use Rattle.exports.proofs.Told.{keys}
 use borrow.Author.Needs.{needs}

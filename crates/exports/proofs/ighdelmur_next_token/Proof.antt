@@ -1,4 +1,4 @@
--- `exports::ighdelmur_next_token` meets its contract. Assumes nothing.
+-- `exports::ighdelmur_next_token` meets its contract.
 use Rattle.exports.proofs.Places.{near-next}
 use Rattle.exports.proofs.Told.{steps}
 use borrow.Author.Needs.{needs}

@@ -1,4 +1,4 @@
--- `exports::ighdelmur_read` meets its contract. Assumes nothing.
+-- `exports::ighdelmur_read` meets its contract.
 use Rattle.exports.proofs.Places.{near-start, near-read}
 use Rattle.exports.proofs.Told.{reads-16, reads-14, reads-on}
 use borrow.Author.Needs.{needs}

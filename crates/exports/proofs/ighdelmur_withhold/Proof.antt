@@ -1,4 +1,4 @@
--- `exports::ighdelmur_withhold` meets its contract. Assumes nothing.
+-- `exports::ighdelmur_withhold` meets its contract.
 use Rattle.exports.proofs.Places.{near-brought}
 use Rattle.exports.proofs.Told.{withholds}
 use borrow.Author.Needs.{needs}

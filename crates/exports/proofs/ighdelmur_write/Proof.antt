@@ -1,4 +1,4 @@
--- `exports::ighdelmur_write` meets its contract. Assumes nothing.
+-- `exports::ighdelmur_write` meets its contract.
 use Rattle.exports.proofs.Places.{near-written}
 use Rattle.exports.proofs.Told.{annotated, writes-16, writes-on}
 use borrow.Author.Needs.{needs}

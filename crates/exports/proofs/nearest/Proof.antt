@@ -1,4 +1,4 @@
--- `exports::nearest` meets its contract. Assumes nothing.
+-- `exports::nearest` meets its contract.
 use Rattle.laws.proofs.Tests.{tests}
 use Rattle.exports.specs.Exports.{nearest}
 use Rattle.exports.proofs.nearest.Statement.{statement}

@@ -1,4 +1,4 @@
--- `exports::nearest_in` meets its contract. Assumes nothing.
+-- `exports::nearest_in` meets its contract.
 use Rattle.exports.proofs.Told.{brought-length, brought-refusal}
 use borrow.Author.Needs.{needs}
 use Rattle.exports.proofs.nearest_in.Statement.{statement}

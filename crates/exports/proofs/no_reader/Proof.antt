@@ -1,4 +1,4 @@
--- `exports::no_reader` meets its contract. Assumes nothing.
+-- `exports::no_reader` meets its contract.
 use mathlib.Core.Path.{refl}
 use Rattle.exports.specs.Exports.{noReader}
 use Rattle.exports.proofs.no_reader.Statement.{statement}

@@ -1,4 +1,4 @@
--- `exports::no_writer` meets its contract. Assumes nothing.
+-- `exports::no_writer` meets its contract.
 use mathlib.Core.Path.{refl}
 use Rattle.exports.specs.Exports.{noWriter}
 use Rattle.exports.proofs.no_writer.Statement.{statement}

@@ -1,4 +1,4 @@
--- `exports::store` meets its contract. Assumes nothing.
+-- `exports::store` meets its contract.
 use Rattle.exports.proofs.Told.{stored}
 use Prim.Native.Nat.{_<_}
 use native.Mathlib.Omega.{arith}

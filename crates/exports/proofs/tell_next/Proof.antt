@@ -1,4 +1,4 @@
--- `exports::tell_next` meets its contract. Assumes nothing.
+-- `exports::tell_next` meets its contract.
 use Rattle.exports.proofs.Places.{next-near}
 use Rattle.exports.proofs.Told.{tells-step, tells-refused}
 use borrow.Author.Needs.{needs}

@@ -1,4 +1,4 @@
--- `exports::tell_number` meets its contract. Assumes nothing.
+-- `exports::tell_number` meets its contract.
 use Rattle.exports.proofs.Places.{number-near}
 use Rattle.exports.proofs.Told.{told-length, told-number}
 use borrow.Author.Needs.{needs}

@@ -1,4 +1,4 @@
--- `exports::tell_read` meets its contract. Assumes nothing.
+-- `exports::tell_read` meets its contract.
 use Rattle.exports.proofs.Places.{answer-near}
 use Rattle.exports.proofs.Told.{told-refused, told-sentence}
 use borrow.Author.Needs.{needs}

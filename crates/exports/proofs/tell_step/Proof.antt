@@ -1,4 +1,4 @@
--- `exports::tell_step` meets its contract. Assumes nothing.
+-- `exports::tell_step` meets its contract.
 use Rattle.exports.proofs.Places.{near-start}
 use Rattle.exports.proofs.Told.{steps-14, steps-served, steps-done}
 use borrow.Author.Needs.{needs}

@@ -1,4 +1,4 @@
--- `exports::write_as` meets its contract. Assumes nothing.
+-- `exports::write_as` meets its contract.
 use Rattle.exports.proofs.Told.{as-raw, as-named}
 use borrow.Author.Needs.{needs}
 use Rattle.exports.proofs.write_as.Statement.{statement}

@@ -1,4 +1,4 @@
--- `lookups::boundary` meets its contract. Assumes nothing.
+-- `lookups::boundary` meets its contract.
 use mathlib.Core.Path.{ap, _∙_}
 use borrow.Author.Tests.{le-leb, lt-leb}
 use native.Mathlib.Omega.{arith}

@@ -1,4 +1,4 @@
--- `lookups::char_to_str_pos` meets its contract. Assumes nothing.
+-- `lookups::char_to_str_pos` meets its contract.
 use mathlib.Core.Path.{ap, _∙_}
 use borrow.Author.Tests.{lt-ltb, le-ltb}
 use Rattle.sheet.specs.declared.Number.the-variants.{Is, Refused}

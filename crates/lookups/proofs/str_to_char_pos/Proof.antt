@@ -1,4 +1,4 @@
--- `lookups::str_to_char_pos` meets its contract. Assumes nothing.
+-- `lookups::str_to_char_pos` meets its contract.
 use mathlib.Core.Path.{ap, _∙_}
 use Rattle.lookups.proofs.Laws.{pos-good}
 use borrow.Author.Tests.{lt-ltb}

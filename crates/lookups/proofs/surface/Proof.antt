@@ -1,4 +1,4 @@
--- `lookups::surface` meets its contract. Assumes nothing.
+-- `lookups::surface` meets its contract.
 use mathlib.Core.Path.{ap, _∙_}
 use Prim.Native.Nat.{_≤_}
 use lib.Dec.{leb, ltb}

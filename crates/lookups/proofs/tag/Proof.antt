@@ -1,4 +1,4 @@
--- `lookups::tag` meets its contract. Assumes nothing.
+-- `lookups::tag` meets its contract.
 use mathlib.Core.Path.{ap, _∙_}
 use Rattle.sheet.specs.declared.Slice.the-variants.{Refused}
 use Rattle.sheet.proofs.Look.{broken, outside, inside, checked, bounds}

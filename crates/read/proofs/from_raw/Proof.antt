@@ -1,3 +1,4 @@
+-- `read::from_raw` meets its contract.
 use borrow.Author.Needs.{needs}
 use Rattle.read.proofs.from_raw.Statement.{statement}
 use Rattle.read.proofs.from_raw.Tie as tie

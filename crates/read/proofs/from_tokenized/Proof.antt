@@ -1,3 +1,4 @@
+-- `read::from_tokenized` meets its contract.
 use borrow.Author.Needs.{needs}
 use Rattle.read.proofs.from_tokenized.Statement.{statement}
 use Rattle.read.proofs.from_tokenized.Tie as tie

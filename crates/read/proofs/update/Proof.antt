@@ -1,3 +1,4 @@
+-- `read::update` meets its contract.
 use Rattle.read.proofs.Ways.{update-lacks, update-done, update-refused}
 use mathlib.Core.Path.{_∙_}
 use borrow.Author.Needs.{needs}

@@ -1,3 +1,4 @@
+-- `read::update_raw` meets its contract.
 use borrow.Author.Needs.{needs}
 use Rattle.read.proofs.update_raw.Statement.{statement}
 use Rattle.read.proofs.update_raw.Tie as tie

@@ -1,3 +1,4 @@
+-- `read::update_tokenized` meets its contract.
 use borrow.Author.Needs.{needs}
 use Rattle.read.proofs.update_tokenized.Statement.{statement}
 use Rattle.read.proofs.update_tokenized.Tie as tie

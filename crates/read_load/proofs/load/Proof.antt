@@ -1,3 +1,4 @@
+-- `read_load::load` meets its contract.
 use Rattle.read_load.proofs.Ways.{read-small, read-refused, read-lacks, read-fits, read-done}
 use borrow.Author.Needs.{needs}
 use Rattle.read_load.proofs.load.Statement.{statement}

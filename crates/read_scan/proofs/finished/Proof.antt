@@ -1,3 +1,4 @@
+-- `read_scan::finished` meets its contract.
 use Rattle.read_scan.proofs.Scanning.{told-whole, told-stop}
 use Rattle.read_scan.specs.Scan.{told}
 use Rattle.read_counts.specs.Counts.{tallies}

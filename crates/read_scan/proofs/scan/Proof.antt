@@ -1,3 +1,4 @@
+-- `read_scan::scan` meets its contract.
 use borrow.Author.Needs.{needs}
 use Rattle.read_scan.proofs.Scanning.{Scanning, Stands, scan-small, scan-start, stands, scan-go, scan-stop, scan-bad, scan-end, scan-long}
 use lib.ListN.{length}

@@ -1,3 +1,4 @@
+-- `read_scan::stopped` meets its contract.
 use Prim.Native.Nat.{_+_, _≤_}
 use lib.ListN.{length}
 use Rattle.read_scan.proofs.Prefixes.{part-fits, stopped-invalid, stopped-valid}

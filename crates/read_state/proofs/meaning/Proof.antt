@@ -1,3 +1,4 @@
+-- `read_state::meaning` meets its contract.
 use Rattle.sentence.specs.Reading.{kind}
 use Rattle.read_state.specs.Flags.{kindIn}
 use borrow.Author.Needs.{needs}

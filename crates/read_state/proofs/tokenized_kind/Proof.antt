@@ -1,3 +1,4 @@
+-- `read_state::tokenized_kind` meets its contract.
 use borrow.Author.Needs.{needs}
 use Rattle.laws.proofs.Tests.{tests}
 use Rattle.sentence.specs.Reading.{kind}

@@ -1,3 +1,4 @@
+-- `read_state::unfinished` meets its contract.
 use Rattle.sentence.specs.Reading.{unfinished}
 use borrow.Author.Needs.{needs}
 use Rattle.read_state.proofs.unfinished.Statement.{statement}

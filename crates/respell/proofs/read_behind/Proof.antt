@@ -1,4 +1,4 @@
--- `respell::read_behind` meets its contract. Assumes nothing.
+-- `respell::read_behind` meets its contract.
 use Rattle.respelling.proofs.Went.{behind-told}
 use borrow.Author.Needs.{needs}
 use Rattle.respell.proofs.read_behind.Statement.{statement}

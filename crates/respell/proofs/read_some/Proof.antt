@@ -1,4 +1,4 @@
--- `respell::read_some` meets its contract: what is held is at most 4,099 bytes, so that there is room. Assumes nothing.
+-- `respell::read_some` meets its contract: what is held is at most 4,099 bytes, so that there is room.
 use Rattle.respelling.proofs.Went.{kept-room, read-some}
 use Prim.Native.Nat.{_≤_}
 use native.Mathlib.Omega.{arith}

@@ -1,4 +1,4 @@
--- `respell::run` meets its contract. The invariant: what stands is what a run has come to; the measure is the number of turns that are left. Assumes nothing.
+-- `respell::run` meets its contract. The invariant: what stands is what a run has come to; the measure is the number of turns that are left.
 use Prim.Native.Nat.{_≤_, _<_}
 use mathlib.Core.Path.{_≡_}
 use lib.ListN.{length}

@@ -1,4 +1,4 @@
--- `respell::turn` meets its contract: what it does is one move. Assumes nothing.
+-- `respell::turn` meets its contract: what it does is one move.
 use Rattle.respelling.proofs.Went.{went-write, few-held, went-read, went-answer}
 use borrow.Author.Needs.{needs}
 use Rattle.respell.proofs.turn.Statement.{statement}

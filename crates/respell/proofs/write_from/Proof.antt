@@ -1,4 +1,4 @@
--- `respell::write_from` meets its contract. Assumes nothing.
+-- `respell::write_from` meets its contract.
 use Rattle.respelling.proofs.Went.{write-told}
 use borrow.Author.Needs.{needs}
 use Rattle.respell.proofs.write_from.Statement.{statement}

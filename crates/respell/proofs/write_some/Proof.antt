@@ -1,4 +1,4 @@
--- `respell::write_some` meets its contract. Assumes nothing.
+-- `respell::write_some` meets its contract.
 use Rattle.respelling.proofs.Went.{wrote-some}
 use borrow.Author.Needs.{needs}
 use Rattle.respell.proofs.write_some.Statement.{statement}

@@ -1,4 +1,4 @@
--- `scores::predict` meets its contract. Assumes nothing.
+-- `scores::predict` meets its contract.
 use mathlib.Core.Path.{refl, ap, _∙_}
 use borrow.Author.Tests.{eq-eqb, ne-eqb}
 use native.Mathlib.Omega.{arith}

@@ -1,3 +1,4 @@
+-- `sheet::check` meets its contract.
 use borrow.Author.Needs.{needs}
 use Rattle.sheet.proofs.Whole.{no-fit, room-met, sheet-is}
 use Rattle.sheet.proofs.check.Statement.{statement}

@@ -1,3 +1,4 @@
+-- `sheet::fits` meets its contract.
 use borrow.Author.Needs.{needs}
 use Rattle.sheet.proofs.Whole.{fits-same}
 use Rattle.sheet.proofs.fits.Statement.{statement}

@@ -1,3 +1,4 @@
+-- `sheet::in_limits` meets its contract.
 use Rattle.sheet.proofs.Whole.{past-limits, product-small, limits-are-met}
 use Rattle.sheet.proofs.in_limits.Statement.{statement}
 use Rattle.sheet.proofs.in_limits.Tie as tie

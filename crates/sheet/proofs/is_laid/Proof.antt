@@ -1,3 +1,4 @@
+-- `sheet::is_laid` meets its contract.
 use Rattle.sheet.proofs.Whole.{prefix-long, no-text, no-marks, laid-is}
 use borrow.Author.Needs.{needs}
 use Rattle.sheet.proofs.is_laid.Statement.{statement}

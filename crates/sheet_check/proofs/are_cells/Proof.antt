@@ -1,3 +1,4 @@
+-- `sheet_check::are_cells` meets its contract.
 use borrow.Author.Needs.{needs}
 use Rattle.sheet_check.specs.Passes.{areCells}
 use Rattle.sheet_check.proofs.Cells.{cells-uneven}

@@ -1,3 +1,4 @@
+-- `sheet_check::are_rows` meets its contract.
 use Prim.Native.Nat.{_-_}
 use borrow.Author.Needs.{needs}
 use lib.ListN.{length}

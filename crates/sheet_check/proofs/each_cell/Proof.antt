@@ -1,3 +1,4 @@
+-- `sheet_check::each_cell` meets its contract.
 use Prim.Native.Nat.{_-_}
 use native.Mathlib.Omega.{arith}
 use lib.ListN.{length}

@@ -1,3 +1,4 @@
+-- `sheet_check::inner_zero` meets its contract.
 use borrow.Author.Needs.{needs}
 use Rattle.sheet_check.proofs.Steps.{inner-one, inner-no, inner-two, inner-no-2, inner-three, inner-last}
 use Rattle.sheet_check.proofs.inner_zero.Statement.{statement}

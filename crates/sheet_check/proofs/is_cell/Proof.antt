@@ -1,3 +1,4 @@
+-- `sheet_check::is_cell` meets its contract.
 use Rattle.sheet_check.proofs.Cells.{cell-elsewhere, cell-none, cell-past, cell-plain}
 use borrow.Author.Needs.{needs}
 use Rattle.sheet_check.proofs.is_cell.Statement.{statement}

@@ -1,3 +1,4 @@
+-- `sheet_check::is_char` meets its contract.
 use native.Mathlib.Omega.{arith}
 use borrow.Author.Needs.{needs}
 use Rattle.sheet_check.proofs.Steps.{char-nul, char-type, char-start, char-number, char-inner}

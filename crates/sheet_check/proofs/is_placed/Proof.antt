@@ -1,3 +1,4 @@
+-- `sheet_check::is_placed` meets its contract.
 use Prim.Native.Nat.{_-_}
 use native.Mathlib.Omega.{arith}
 use borrow.Author.Needs.{needs}

@@ -1,3 +1,4 @@
+-- `sheet_check::is_plain` meets its contract.
 use Prim.Native.Nat.{_-_}
 use mathlib.Core.Path.{refl}
 use native.Mathlib.Omega.{arith}

@@ -1,3 +1,4 @@
+-- `sheet_check::is_row` meets its contract.
 use borrow.Author.Needs.{needs}
 use Rattle.sheet_check.proofs.Cells.{row-absent}
 use Rattle.sheet_check.proofs.is_row.Statement.{statement}

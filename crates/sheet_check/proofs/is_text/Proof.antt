@@ -1,3 +1,4 @@
+-- `sheet_check::is_text` meets its contract.
 use borrow.Author.Needs.{needs}
 use Rattle.sheet_check.proofs.Says.{few-starts, few-numbers}
 use Rattle.sheet_check.proofs.is_text.Statement.{statement}

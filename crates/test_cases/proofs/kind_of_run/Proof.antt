@@ -1,3 +1,4 @@
+-- `test_cases::kind_of_run` meets its contract.
 use Prim.Native.Nat.{_-_}
 use borrow.Author.Needs.{needs}
 use Rattle.test_cases.proofs.kind_of_run.Statement.{statement}

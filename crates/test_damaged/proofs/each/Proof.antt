@@ -1,4 +1,4 @@
--- `damaged::each` meets its contract. Assumes nothing.
+-- `test_damaged::each` meets its contract.
 use Prim.Native.Nat.{_+_, _-_, _≤_}
 use borrow.Author.Needs.{needs}
 use lib.ListN.{length}

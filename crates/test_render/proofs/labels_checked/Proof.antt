@@ -1,3 +1,4 @@
+-- `test_render::labels_checked` meets its contract.
 use borrow.Author.Needs.{needs}
 use Rattle.sheet.proofs.Look.{checked}
 use Rattle.test_render.proofs.labels_checked.Statement.{statement}

@@ -1,3 +1,4 @@
+-- `test_render::step` meets its contract.
 use borrow.Author.Needs.{needs}
 use Rattle.tokens.proofs.Held.{bounded-held}
 use Rattle.test_render.proofs.step.Statement.{statement}

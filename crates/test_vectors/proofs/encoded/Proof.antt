@@ -1,3 +1,4 @@
+-- `test_vectors::encoded` meets its contract.
 use mathlib.Core.Path.{sym, _∙_}
 use borrow.Author.Needs.{needs}
 use Rattle.test_vectors.proofs.encoded.Statement.{statement}

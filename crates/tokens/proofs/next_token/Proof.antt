@@ -1,4 +1,4 @@
--- `tokens::next_token` meets its contract, by what it tested. Assumes nothing.
+-- `tokens::next_token` meets its contract, by what it tested.
 use Rattle.tokens.proofs.Answers.{is-bounded, answers}
 use borrow.Author.Needs.{needs}
 use Rattle.tokens.proofs.next_token.Statement.{statement}

@@ -1,5 +1,7 @@
--- `tokens::token_list` meets its contract: a walk of its MIR, by hand. It calls `needed`, `filled` and, in each turn, `token_from`, of which the proof knows only that they meet their contracts. The borrow of the list is opened once, before the loop, and closed once, after it.
--- The loop's invariant is `Partway`, of the list in memory. Assumes nothing.
+-- `tokens::token_list` meets its contract: a walk of its MIR, by hand.
+
+-- It calls `needed`, `filled` and, in each turn, `token_from`, of which the proof knows only that they meet their contracts. The borrow of the list
+-- is opened once, before the loop, and closed once, after it. The loop's invariant is `Partway`, of the list in memory.
 use mathlib.Core.Path.{_≡_, refl, sym, _∙_, ap, subst}
 use Prim.Native.Nat.{ℕ, _+_, _-_, _*_, _≤_, _<_, _^_, zero-le}
 use native.Mathlib.Omega.{arith}

@@ -1,3 +1,4 @@
+-- `utf8::char_of` meets its contract.
 use borrow.Author.Tests.{lt-leb}
 use Rattle.laws.specs.If.{if_then_else_}
 use Rattle.utf8.specs.Utf8.{charOf}

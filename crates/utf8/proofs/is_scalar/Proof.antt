@@ -1,3 +1,4 @@
+-- `utf8::is_scalar` meets its contract.
 use Rattle.utf8.specs.Utf8.{scalar}
 use Rattle.utf8.proofs.is_scalar.Statement.{statement}
 use Rattle.utf8.proofs.is_scalar.Tie as tie

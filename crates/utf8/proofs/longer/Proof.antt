@@ -1,3 +1,4 @@
+-- `utf8::longer` meets its contract.
 use mathlib.Core.Path.{sym, _∙_}
 use Rattle.utf8.proofs.Laws.{decode-in}
 use borrow.Author.Needs.{needs}

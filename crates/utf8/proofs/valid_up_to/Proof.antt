@@ -1,3 +1,4 @@
+-- `utf8::valid_up_to` meets its contract.
 use Prim.Native.Nat.{_-_}
 use native.Mathlib.Omega.{arith}
 use borrow.Author.Needs.{needs}

@@ -1,4 +1,4 @@
--- `write::no_range` meets its contract. Assumes nothing.
+-- `write::no_range` meets its contract.
 use borrow.Author.Tests.{lt-ltb, le-ltb}
 use Rattle.write.proofs.no_range.Statement.{statement}
 use Rattle.write.proofs.no_range.Tie as tie

@@ -1,4 +1,4 @@
--- `write::note_key` meets its contract. Assumes nothing.
+-- `write::note_key` meets its contract.
 use Rattle.write.proofs.Keys.{keyed}
 use borrow.Author.Needs.{needs}
 use Rattle.write.proofs.note_key.Statement.{statement}

@@ -1,4 +1,4 @@
--- `write::write_partial_annotation_text` meets its contract. Assumes nothing.
+-- `write::write_partial_annotation_text` meets its contract.
 use mathlib.Core.Path.{refl}
 use Rattle.sentence.specs.declared.Form.the-variants.{Partial as partial}
 use Rattle.sheet.proofs.Look.{checked}

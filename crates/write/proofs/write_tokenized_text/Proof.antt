@@ -1,4 +1,4 @@
--- `write::write_tokenized_text` meets its contract. Assumes nothing.
+-- `write::write_tokenized_text` meets its contract.
 use mathlib.Core.Path.{refl}
 use Rattle.sentence.specs.declared.Form.the-variants.{Tokenized as tokenized}
 use Rattle.sheet.proofs.Look.{checked}

@@ -1,4 +1,4 @@
--- `write::write_withheld_text` meets its contract. Assumes nothing.
+-- `write::write_withheld_text` meets its contract.
 use Rattle.sheet.proofs.Look.{checked}
 use Rattle.write.proofs.Laws.{put-13}
 use Rattle.write.proofs.Withheld.{withhold-14, withhold-asks, withhold-12, withhold-room, withhold-line}

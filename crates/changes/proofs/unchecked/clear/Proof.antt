@@ -1,4 +1,4 @@
--- `changes::unchecked::clear` meets its contract. Assumes nothing.
+-- `changes::unchecked::clear` meets its contract.
 use Prim.Native.Nat.{_-_, _≤_}
 use borrow.Author.Needs.{needs}
 use lib.ListN.{length, replicate}

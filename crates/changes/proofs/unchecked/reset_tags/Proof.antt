@@ -1,4 +1,4 @@
--- `changes::unchecked::reset_tags` meets its contract. Assumes nothing.
+-- `changes::unchecked::reset_tags` meets its contract.
 use Rattle.changes.proofs.Kept.{reset-lays}
 use borrow.Author.Needs.{needs}
 use Rattle.changes.proofs.unchecked.reset_tags.Statement.{statement}

@@ -1,4 +1,4 @@
--- `changes::unchecked::set_boundary` meets its contract. Assumes nothing.
+-- `changes::unchecked::set_boundary` meets its contract.
 use native.Mathlib.Omega.{arith}
 use Rattle.sheet.proofs.Look.{bounds}
 use Rattle.changes.proofs.Kept.{boundary-lays}

@@ -1,4 +1,4 @@
--- `passage::unchecked::between` meets its contract: a line is refused, or its cells are too many, or it is short, middle or long. Assumes nothing.
+-- `convert_buffers::unchecked::between` meets its contract: a line is refused, or its cells are too many, or it is short, middle or long.
 use Rattle.convert_buffers.proofs.Passed.{scanned-few, scanned-short, few-bytes, few-cells, passed-full, passed-refused}
 use lib.ListN.{length}
 use borrow.Author.Needs.{needs}

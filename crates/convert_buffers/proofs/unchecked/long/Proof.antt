@@ -1,4 +1,4 @@
--- `passage::unchecked::long` meets its contract: its arrays are wide enough for 4,096 bytes and 2,048 cells. Assumes nothing.
+-- `convert_buffers::unchecked::long` meets its contract: its arrays are wide enough for 4,096 bytes and 2,048 cells.
 use borrow.Author.Needs.{needs}
 use Rattle.convert_buffers.proofs.unchecked.long.Statement.{statement}
 use Rattle.convert_buffers.proofs.unchecked.long.Tie as tie

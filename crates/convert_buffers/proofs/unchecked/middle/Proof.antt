@@ -1,4 +1,4 @@
--- `passage::unchecked::middle` meets its contract: its arrays are wide enough for 512 bytes and 512 cells. Assumes nothing.
+-- `convert_buffers::unchecked::middle` meets its contract: its arrays are wide enough for 512 bytes and 512 cells.
 use borrow.Author.Needs.{needs}
 use Rattle.convert_buffers.proofs.unchecked.middle.Statement.{statement}
 use Rattle.convert_buffers.proofs.unchecked.middle.Tie as tie

@@ -1,4 +1,4 @@
--- `passage::unchecked::short` meets its contract: its arrays are wide enough for 256 bytes and 256 cells. Assumes nothing.
+-- `convert_buffers::unchecked::short` meets its contract: its arrays are wide enough for 256 bytes and 256 cells.
 use borrow.Author.Needs.{needs}
 use Rattle.convert_buffers.proofs.unchecked.short.Statement.{statement}
 use Rattle.convert_buffers.proofs.unchecked.short.Tie as tie

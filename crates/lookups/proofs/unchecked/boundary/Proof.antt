@@ -1,4 +1,4 @@
--- `lookups::unchecked::boundary` meets its contract. Assumes nothing.
+-- `lookups::unchecked::boundary` meets its contract.
 use native.Mathlib.Omega.{arith}
 use Rattle.sheet.proofs.Look.{bounds, boundary-is}
 use Rattle.lookups.proofs.unchecked.boundary.Statement.{statement}

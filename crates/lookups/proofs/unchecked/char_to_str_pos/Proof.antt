@@ -1,4 +1,4 @@
--- `lookups::unchecked::char_to_str_pos` meets its contract. Assumes nothing.
+-- `lookups::unchecked::char_to_str_pos` meets its contract.
 use native.Mathlib.Omega.{arith}
 use Rattle.sheet.proofs.Look.{bounds}
 use Rattle.lookups.proofs.Laws.{pos-at}

@@ -1,4 +1,4 @@
--- `lookups::unchecked::str_to_char_pos` meets its contract. Assumes nothing.
+-- `lookups::unchecked::str_to_char_pos` meets its contract.
 use borrow.Author.Needs.{needs}
 use mathlib.Core.Path.{ap, _∙_}
 use native.Mathlib.Omega.{arith}

@@ -1,4 +1,4 @@
--- `lookups::unchecked::surface` meets its contract. Assumes nothing.
+-- `lookups::unchecked::surface` meets its contract.
 use native.Mathlib.Omega.{arith}
 use Rattle.sheet.proofs.Look.{bounds}
 use Rattle.lookups.proofs.Laws.{pos-at}

@@ -1,4 +1,4 @@
--- `lookups::unchecked::tag` meets its contract. Assumes nothing.
+-- `lookups::unchecked::tag` meets its contract.
 use native.Mathlib.Omega.{arith}
 use Prim.Native.Nat.{_+_, _*_}
 use Rattle.lookups.proofs.Laws.{cell-index, tag-absent, tag-present}

@@ -1,3 +1,4 @@
+-- `read_counts::Counts::new` meets its contract.
 use Rattle.read_counts.specs.Counts.{nothing}
 use Rattle.read_counts.proofs.Counts.new.Statement.{statement}
 use Rattle.read_counts.proofs.Counts.new.Tie as tie

@@ -1,3 +1,4 @@
+-- `read_counts::unchecked::letter` meets its contract.
 use Rattle.read_counts.specs.Counts.{letters}
 use borrow.Author.Needs.{needs}
 use Rattle.read_counts.proofs.unchecked.letter.Statement.{statement}

@@ -1,3 +1,4 @@
+-- `read_counts::unchecked::of_tag` meets its contract.
 use Rattle.read_counts.specs.Counts.{grows}
 use borrow.Author.Needs.{needs}
 use Rattle.read_counts.proofs.unchecked.of_tag.Statement.{statement}

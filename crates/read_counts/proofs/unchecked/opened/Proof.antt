@@ -1,3 +1,4 @@
+-- `read_counts::unchecked::opened` meets its contract.
 use Rattle.read_counts.specs.Counts.{opened}
 use Rattle.read_counts.proofs.unchecked.opened.Statement.{statement}
 use Rattle.read_counts.proofs.unchecked.opened.Tie as tie

@@ -1,3 +1,4 @@
+-- `read_counts::unchecked::opens` meets its contract.
 use Rattle.read_counts.specs.Counts.{opening}
 use borrow.Author.Needs.{needs}
 use Rattle.read_counts.proofs.unchecked.opens.Statement.{statement}

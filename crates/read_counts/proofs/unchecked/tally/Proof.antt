@@ -1,3 +1,4 @@
+-- `read_counts::unchecked::tally` meets its contract.
 use Rattle.read_counts.proofs.Acts.{skip-tally, letter-tally, opens-tally, tag-tally}
 use borrow.Author.Needs.{needs}
 use Rattle.read_counts.proofs.unchecked.tally.Statement.{statement}

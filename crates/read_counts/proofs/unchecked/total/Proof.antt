@@ -1,3 +1,4 @@
+-- `read_counts::unchecked::total` meets its contract.
 use Rattle.read_counts.specs.Counts.{counted}
 use Rattle.read_counts.proofs.Bounds.{cells-few}
 use Rattle.read_counts.proofs.unchecked.total.Statement.{statement}

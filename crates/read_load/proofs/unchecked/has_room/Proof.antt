@@ -1,3 +1,4 @@
+-- `read_load::unchecked::has_room` meets its contract.
 use Rattle.sheet.specs.Eight.{all}
 use Rattle.sheet.specs.Layout.{enough}
 use borrow.Author.Needs.{needs}

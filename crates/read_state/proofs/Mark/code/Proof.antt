@@ -1,3 +1,4 @@
+-- `read_state::Mark::code` meets its contract.
 use Rattle.sentence.specs.Sentence.{code}
 use Rattle.read_state.specs.Flags.{markOf}
 use borrow.Author.Needs.{needs}

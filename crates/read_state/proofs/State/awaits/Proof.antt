@@ -1,3 +1,4 @@
+-- `read_state::State::awaits` meets its contract.
 use Rattle.read_state.proofs.Places.{awaited}
 use Rattle.read_state.proofs.State.awaits.Statement.{statement}
 use Rattle.read_state.proofs.State.awaits.Tie as tie

@@ -1,3 +1,4 @@
+-- `read_state::State::backslash` meets its contract.
 use Rattle.read_state.proofs.Steps.{handed-back}
 use borrow.Author.Needs.{needs}
 use Rattle.read_state.proofs.State.backslash.Statement.{statement}

@@ -1,3 +1,4 @@
+-- `read_state::State::boundary` meets its contract.
 use borrow.Author.Needs.{needs}
 use Rattle.read_state.specs.Flags.{flagsAt, flags, actIn, beforeIn, stepped}
 use Rattle.sentence.specs.Reading.{opening, step}

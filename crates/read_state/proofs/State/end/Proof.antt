@@ -1,3 +1,4 @@
+-- `read_state::State::end` meets its contract.
 use Rattle.read_state.specs.Flags.{ended}
 use Rattle.sentence.specs.Reading.{ending}
 use Rattle.read_state.proofs.Steps.{finish-place, near-end}

@@ -1,3 +1,4 @@
+-- `read_state::State::escaped` meets its contract.
 use Rattle.read_state.proofs.Places.{escaped-gap, escaped-near}
 use Rattle.read_state.proofs.State.escaped.Statement.{statement}
 use Rattle.read_state.proofs.State.escaped.Tie as tie

@@ -1,3 +1,4 @@
+-- `read_state::State::is_literal` meets its contract.
 use Rattle.read_state.specs.Flags.{literal}
 use borrow.Author.Needs.{needs}
 use Rattle.read_state.proofs.State.is_literal.Statement.{statement}

@@ -1,3 +1,4 @@
+-- `read_state::State::letter` meets its contract.
 use Rattle.read_state.proofs.Enums.{mark-back}
 use Rattle.read_state.specs.Flags.{flagsAt, flags, actIn, beforeIn, stepped}
 use Rattle.read_state.proofs.State.letter.Statement.{statement}

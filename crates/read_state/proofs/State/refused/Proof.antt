@@ -1,3 +1,4 @@
+-- `read_state::State::refused` meets its contract.
 use borrow.Author.Needs.{needs}
 use Rattle.read_state.specs.Flags.{stepped}
 use Rattle.read_state.proofs.State.refused.Statement.{statement}

@@ -1,3 +1,4 @@
+-- `read_state::State::slash` meets its contract.
 use Rattle.read_state.specs.Flags.{actIn, beforeIn, stepped}
 use Rattle.read_state.proofs.Steps.{near-slash, far-slash}
 use Rattle.laws.proofs.Tests.{of-call}

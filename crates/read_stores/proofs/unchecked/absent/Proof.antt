@@ -1,3 +1,4 @@
+-- `read_stores::unchecked::absent` meets its contract.
 use Prim.Native.Nat.{_-_}
 use Rattle.read_stores.proofs.Copies.{Absenting, absent-start, absent-more, absent-starts, absent-lengths}
 use borrow.Author.Needs.{needs}

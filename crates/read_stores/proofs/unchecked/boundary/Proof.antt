@@ -1,3 +1,4 @@
+-- `read_stores::unchecked::boundary` meets its contract.
 use Rattle.read_stores.proofs.Copies.{later-none, later-fits, later-stored}
 use borrow.Author.Needs.{needs}
 use Rattle.read_stores.proofs.unchecked.boundary.Statement.{statement}

@@ -1,3 +1,4 @@
+-- `read_stores::unchecked::copy` meets its contract.
 use Rattle.read_stores.proofs.Copies.{copied-one, copied-two, copied-three, copied-four}
 use lib.ListN.{length-set}
 use native.Mathlib.Omega.{arith}

@@ -1,3 +1,4 @@
+-- `read_stores::unchecked::end_cell` meets its contract.
 use Rattle.read_stores.proofs.Copies.{cell-fits, cell-open, next-open, next-closed, kept-none}
 use borrow.Author.Needs.{needs}
 use Rattle.read_stores.proofs.unchecked.end_cell.Statement.{statement}

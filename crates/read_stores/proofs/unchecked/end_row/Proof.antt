@@ -1,3 +1,4 @@
+-- `read_stores::unchecked::end_row` meets its contract.
 use Rattle.read_stores.proofs.Copies.{bare-stored, first-stored, row-first, row-rest, row-stored, all-small}
 use borrow.Author.Needs.{needs}
 use Rattle.read_stores.proofs.unchecked.end_row.Statement.{statement}

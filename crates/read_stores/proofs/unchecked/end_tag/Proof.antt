@@ -1,3 +1,4 @@
+-- `read_stores::unchecked::end_tag` meets its contract.
 use Rattle.read_stores.proofs.Copies.{none-stored, open-fits, open-stored}
 use borrow.Author.Needs.{needs}
 use Rattle.read_stores.proofs.unchecked.end_tag.Statement.{statement}

@@ -1,3 +1,4 @@
+-- `read_stores::unchecked::keep` meets its contract.
 use Rattle.read_stores.proofs.Copies.{kept-fits, kept-none, kept-some}
 use borrow.Author.Needs.{needs}
 use Rattle.read_stores.proofs.unchecked.keep.Statement.{statement}

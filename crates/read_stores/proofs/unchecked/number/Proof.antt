@@ -1,3 +1,4 @@
+-- `read_stores::unchecked::number` meets its contract.
 use Rattle.read_stores.proofs.Copies.{numbered-one, numbered-two, numbered-three, numbered-four}
 use lib.ListN.{length-set}
 use native.Mathlib.Omega.{arith}

@@ -1,3 +1,4 @@
+-- `read_stores::unchecked::place` meets its contract.
 use Rattle.read_stores.proofs.Copies.{spot-none, spot-some, rows-small, spot-small}
 use borrow.Author.Needs.{needs}
 use Rattle.read_stores.proofs.unchecked.place.Statement.{statement}

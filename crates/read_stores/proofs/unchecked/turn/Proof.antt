@@ -1,3 +1,4 @@
+-- `read_stores::unchecked::turn` meets its contract.
 use Rattle.read_stores.proofs.Turns.{LetterRoom, TagRoom, letter-room, letter-stored, skip-stored, opens-room, opens-stored, tag-room, tag-stored}
 use Rattle.sheet.specs.Layout.{buffers}
 use native.Mathlib.Omega.{arith}

@@ -1,4 +1,4 @@
--- `scores::unchecked::decide` meets its contract. Assumes nothing.
+-- `scores::unchecked::decide` meets its contract.
 use Rattle.scores.proofs.Laws.{above, not-above}
 use Rattle.scores.proofs.unchecked.decide.Statement.{statement}
 use Rattle.scores.proofs.unchecked.decide.Tie as tie

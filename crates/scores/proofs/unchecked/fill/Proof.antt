@@ -1,4 +1,4 @@
--- `scores::unchecked::fill` meets its contract. Assumes nothing.
+-- `scores::unchecked::fill` meets its contract.
 use Prim.Native.Nat.{_-_, _≤_}
 use mathlib.Core.List.{map}
 use borrow.Author.Needs.{needs}

@@ -1,4 +1,4 @@
--- `scores::unchecked::predict` meets its contract. Assumes nothing.
+-- `scores::unchecked::predict` meets its contract.
 use native.Mathlib.Omega.{arith}
 use Rattle.sheet.proofs.Look.{bounds}
 use Rattle.scores.proofs.Laws.{scores-lay}

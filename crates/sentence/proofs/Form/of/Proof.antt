@@ -1,4 +1,4 @@
--- `sentence::Form::of` meets its contract. Assumes nothing.
+-- `sentence::Form::of` meets its contract.
 use Rattle.sentence.specs.Forms.{formOf}
 use Rattle.sentence.proofs.Forms.{is-partial}
 use Rattle.sentence.proofs.Form.of.Statement.{statement}

@@ -1,3 +1,4 @@
+-- `test_casework::fields::find` meets its contract.
 use Prim.Native.Nat.{_-_, _≤_, min}
 use borrow.Author.Needs.{needs}
 use lib.ListN.{length}

@@ -1,3 +1,4 @@
+-- `test_casework::fields::item` meets its contract.
 use borrow.Author.Needs.{needs}
 use Rattle.test_casework.proofs.fields.item.Statement.{statement}
 use Rattle.test_casework.proofs.fields.item.Tie as tie

@@ -1,3 +1,4 @@
+-- `test_hiding::copies::is_full` meets its contract.
 use Prim.Native.Nat.{_-_}
 use borrow.Author.Needs.{needs}
 use lib.ListN.{length}

@@ -1,3 +1,4 @@
+-- `test_render::lists::records` meets its contract.
 use Prim.Native.Nat.{_+_, _-_, _≤_}
 use borrow.Author.Needs.{needs}
 use Rattle.test_render.proofs.lists.records.Statement.{statement}

@@ -1,4 +1,4 @@
--- `tokens::unchecked::count_tokens` meets its contract. The loop's invariant: the tokens passed and those onward are all. Assumes nothing.
+-- `tokens::unchecked::count_tokens` meets its contract. The loop's invariant: the tokens passed and those onward are all.
 use Prim.Native.Nat.{_-_}
 use native.Mathlib.Omega.{arith}
 use borrow.Author.Needs.{needs}

@@ -1,4 +1,4 @@
--- `tokens::unchecked::next_token` meets its contract. The loop's invariant: the scan so far leaves the answer that the scan from p has. Assumes nothing.
+-- `tokens::unchecked::next_token` meets its contract. The loop's invariant: the scan so far leaves the answer that the scan from p has.
 use Prim.Native.Nat.{_-_}
 use borrow.Author.Needs.{needs}
 use native.Mathlib.Omega.{arith}

@@ -1,4 +1,4 @@
--- `tokens::unchecked::token_from` meets its contract: what the step answers is read as a token. Assumes nothing.
+-- `tokens::unchecked::token_from` meets its contract: what the step answers is read as a token.
 use Rattle.tokens.proofs.Answers.{of-step, of-end}
 use borrow.Author.Needs.{needs}
 use Rattle.tokens.proofs.unchecked.token_from.Statement.{statement}

@@ -1,3 +1,4 @@
+-- `utf8::unchecked::bytes_of` meets its contract.
 use Rattle.laws.proofs.Tests.{tests}
 use Rattle.utf8.specs.Utf8.{filled, encode}
 use borrow.Author.Needs.{needs}

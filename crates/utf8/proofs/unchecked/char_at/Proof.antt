@@ -1,3 +1,4 @@
+-- `utf8::unchecked::char_at` meets its contract.
 use Rattle.utf8.proofs.Lead.{Spans, lead-within, lead-one, lead-two, lead-three, lead-four}
 use lib.ListN.{getD}
 use native.Mathlib.Omega.{arith}

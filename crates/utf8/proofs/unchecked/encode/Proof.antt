@@ -1,3 +1,4 @@
+-- `utf8::unchecked::encode` meets its contract.
 use Rattle.utf8.proofs.Codec.{scalar-small}
 use borrow.Author.Needs.{needs}
 use Rattle.utf8.proofs.unchecked.encode.Statement.{statement}

@@ -1,4 +1,4 @@
--- `write_escape::unchecked::escapes` meets its contract. Assumes nothing.
+-- `write_escape::unchecked::escapes` meets its contract.
 use borrow.Author.Needs.{needs}
 use Rattle.write_escape.specs.Escape.{escapes}
 use Rattle.write_escape.proofs.unchecked.escapes.Statement.{statement}

@@ -1,4 +1,4 @@
--- `write_escape::unchecked::has_meaning` meets its contract. Assumes nothing.
+-- `write_escape::unchecked::has_meaning` meets its contract.
 use borrow.Author.Needs.{needs}
 use Rattle.write_escape.proofs.Bytes.{meanings}
 use Rattle.write_escape.proofs.unchecked.has_meaning.Statement.{statement}

@@ -1,4 +1,4 @@
--- `write_escape::unchecked::is_partial` meets its contract. Assumes nothing.
+-- `write_escape::unchecked::is_partial` meets its contract.
 use borrow.Author.Needs.{needs}
 use Rattle.write_escape.specs.Escape.{isPartial}
 use Rattle.write_escape.proofs.unchecked.is_partial.Statement.{statement}

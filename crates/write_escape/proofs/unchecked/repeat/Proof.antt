@@ -1,4 +1,4 @@
--- `escape::unchecked::repeat` meets its contract. The invariant: the byte is left to write as often as `left` says. Assumes nothing.
+-- `write_escape::unchecked::repeat` meets its contract. The invariant: the byte is left to write as often as `left` says.
 use lib.ListN.{replicate, length-replicate}
 use borrow.Author.Needs.{needs}
 use Rattle.write_escape.specs.Wrote.{Writing, write-start, writes}

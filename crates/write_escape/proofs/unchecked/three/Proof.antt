@@ -1,4 +1,4 @@
--- `escape::unchecked::three` meets its contract. Assumes nothing.
+-- `write_escape::unchecked::three` meets its contract.
 use lib.ListN.{length-set}
 use native.Mathlib.Omega.{arith}
 use borrow.Author.Needs.{needs}

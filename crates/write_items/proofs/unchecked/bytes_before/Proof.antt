@@ -1,4 +1,4 @@
--- `pieces::unchecked::bytes_before` meets its contract. Assumes nothing.
+-- `write_items::unchecked::bytes_before` meets its contract.
 use native.Mathlib.Omega.{arith}
 use Rattle.write_items.proofs.unchecked.bytes_before.Statement.{statement}
 use Rattle.write_items.proofs.unchecked.bytes_before.Tie as tie

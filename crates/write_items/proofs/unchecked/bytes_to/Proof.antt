@@ -1,4 +1,4 @@
--- `pieces::unchecked::bytes_to` meets its contract. Assumes nothing.
+-- `write_items::unchecked::bytes_to` meets its contract.
 use Rattle.write_items.proofs.Cells.{bytes-none, bytes-behind}
 use borrow.Author.Needs.{needs}
 use Rattle.write_items.proofs.unchecked.bytes_to.Statement.{statement}

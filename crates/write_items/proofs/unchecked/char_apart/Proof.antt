@@ -1,4 +1,4 @@
--- `pieces::unchecked::char_apart` meets its contract. Assumes nothing.
+-- `write_items::unchecked::char_apart` meets its contract.
 use Prim.Native.Nat.{_+_}
 use Rattle.sentence.specs.declared.Form.the-variants.{Partial as partial}
 use Rattle.write_escape.specs.Wrote.{wrote-both}

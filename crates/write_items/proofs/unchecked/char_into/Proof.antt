@@ -1,4 +1,4 @@
--- `pieces::unchecked::char_into` meets its contract. Assumes nothing.
+-- `write_items::unchecked::char_into` meets its contract.
 use Prim.Native.Nat.{_+_}
 use Rattle.write_items.proofs.Tags.{text-first, text-then, text-both}
 use borrow.Author.Needs.{needs}

@@ -1,4 +1,4 @@
--- `pieces::unchecked::end_of` meets its contract. Assumes nothing.
+-- `write_items::unchecked::end_of` meets its contract.
 use native.Mathlib.Omega.{arith}
 use borrow.Author.Needs.{needs}
 use Rattle.write_items.proofs.unchecked.end_of.Statement.{statement}

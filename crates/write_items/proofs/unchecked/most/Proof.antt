@@ -1,4 +1,4 @@
--- `pieces::unchecked::most` meets its contract. Assumes nothing.
+-- `write_items::unchecked::most` meets its contract.
 use mathlib.Core.Path.{refl}
 use native.Mathlib.Omega.{arith}
 use Rattle.write_items.specs.Items.{mostOf}

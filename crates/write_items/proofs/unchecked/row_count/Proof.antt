@@ -1,4 +1,4 @@
--- `pieces::unchecked::row_count` meets its contract. The invariant: the last listed cell is among the first n. Assumes nothing.
+-- `write_items::unchecked::row_count` meets its contract. The invariant: the last listed cell is among the first n.
 use Rattle.write_items.proofs.Cells.{count-fits, count-empty, count-none, Looking, looking}
 use borrow.Author.Needs.{needs}
 use Rattle.write_items.proofs.unchecked.row_count.Statement.{statement}

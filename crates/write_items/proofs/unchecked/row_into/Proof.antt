@@ -1,4 +1,4 @@
--- `pieces::unchecked::row_into` meets its contract. Assumes nothing.
+-- `write_items::unchecked::row_into` meets its contract.
 use Rattle.write_items.proofs.Cells.{count-fits, count-end}
 use Rattle.write_items.proofs.Tags.{row-tags, row-rest, row-padded, row-full}
 use borrow.Author.Needs.{needs}

@@ -1,4 +1,4 @@
--- `pieces::unchecked::row_len` meets its contract. Assumes nothing.
+-- `write_items::unchecked::row_len` meets its contract.
 use native.Mathlib.Omega.{arith}
 use Rattle.write_items.proofs.Cells.{fewer, count-fits}
 use Rattle.write_items.proofs.Lengths.{row-bytes, row-room, row-long}

@@ -1,4 +1,4 @@
--- `pieces::unchecked::tags_into` meets its contract. The invariant: the tags from the j-th cell on are left to write. Assumes nothing.
+-- `write_items::unchecked::tags_into` meets its contract. The invariant: the tags from the j-th cell on are left to write.
 use Prim.Native.Nat.{_-_}
 use Rattle.sentence.specs.Writing.{writeTags}
 use Rattle.write_items.specs.Items.{cellTags}

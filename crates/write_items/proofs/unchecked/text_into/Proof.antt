@@ -1,4 +1,4 @@
--- `pieces::unchecked::text_into` meets its contract. Assumes nothing.
+-- `write_items::unchecked::text_into` meets its contract.
 use Prim.Native.Nat.{_+_}
 use Rattle.write_items.proofs.Tags.{text-asks, text-wrote}
 use borrow.Author.Needs.{needs}

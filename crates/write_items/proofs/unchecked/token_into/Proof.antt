@@ -1,4 +1,4 @@
--- `pieces::unchecked::token_into` meets its contract. Assumes nothing.
+-- `write_items::unchecked::token_into` meets its contract.
 use Rattle.sentence.specs.declared.Form.the-variants.{Tokenized as tokenized}
 use Rattle.sentence.specs.Writing.{escape}
 use Rattle.write_items.proofs.Tags.{text-first, text-then, text-both}

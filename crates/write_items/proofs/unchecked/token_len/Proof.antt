@@ -1,4 +1,4 @@
--- `pieces::unchecked::token_len` meets its contract. Assumes nothing.
+-- `write_items::unchecked::token_len` meets its contract.
 use Rattle.write_items.proofs.Lengths.{token-row, token-room, token-long}
 use borrow.Author.Needs.{needs}
 use Rattle.write_items.proofs.unchecked.token_len.Statement.{statement}

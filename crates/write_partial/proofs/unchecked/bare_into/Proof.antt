@@ -1,4 +1,4 @@
--- `partial::unchecked::bare_into` meets its contract. Assumes nothing.
+-- `write_partial::unchecked::bare_into` meets its contract.
 use native.Mathlib.Omega.{arith}
 use Rattle.write_escape.specs.Wrote.{wrote-both}
 use Rattle.write_partial.proofs.Loops.{bare-text, bare-columns}

@@ -1,4 +1,4 @@
--- `partial::unchecked::before_into` meets its contract. Assumes nothing.
+-- `write_partial::unchecked::before_into` meets its contract.
 use native.Mathlib.Omega.{arith}
 use Rattle.write_partial.proofs.Asks.{before-empty, before-first, before-then, before-byte, before-inside, before-done, set-long}
 use borrow.Author.Needs.{needs}

@@ -1,4 +1,4 @@
--- `partial::unchecked::before_len` meets its contract. Assumes nothing.
+-- `write_partial::unchecked::before_len` meets its contract.
 use mathlib.Core.Path.{ap}
 use native.Mathlib.Omega.{arith}
 use lib.ListN.{length}

@@ -1,4 +1,4 @@
--- `partial::unchecked::columns_before` meets its contract. Assumes nothing.
+-- `write_partial::unchecked::columns_before` meets its contract.
 use Rattle.laws.proofs.Tests.{tests}
 use Rattle.write_partial.proofs.unchecked.columns_before.Statement.{statement}
 use Rattle.write_partial.proofs.unchecked.columns_before.Tie as tie

@@ -1,4 +1,4 @@
--- `partial::unchecked::columns_shown` meets its contract. The invariant: the longest row is the longest so far or one from the i-th on. Assumes nothing.
+-- `write_partial::unchecked::columns_shown` meets its contract. The invariant: the longest row is the longest so far or one from the i-th on.
 use Prim.Native.Nat.{_-_}
 use borrow.Author.Needs.{needs}
 use borrow.Author.Tests.{ltb-false}

@@ -1,4 +1,4 @@
--- `partial::unchecked::count_slashes` meets its contract. The invariant: the slashes from the i-th character on are left to count. Assumes nothing.
+-- `write_partial::unchecked::count_slashes` meets its contract. The invariant: the slashes from the i-th character on are left to count.
 use Prim.Native.Nat.{_-_}
 use Rattle.write_partial.specs.Line.{slashesOf}
 use Rattle.write_partial.proofs.Loops.{Slashing, slash-start, slash-reads, slash-asks, slash-word-fits, slash-word, slash-other-fits, slash-other, slash-done}

@@ -1,4 +1,4 @@
--- `partial::unchecked::is_hidden` meets its contract. Assumes nothing.
+-- `write_partial::unchecked::is_hidden` meets its contract.
 use borrow.Author.Tests.{le-leb, lt-leb}
 use Rattle.sentence.specs.Withheld.{inRange}
 use Rattle.write_partial.proofs.unchecked.is_hidden.Statement.{statement}

@@ -1,4 +1,4 @@
--- `partial::unchecked::partial_into` meets its contract. Assumes nothing.
+-- `write_partial::unchecked::partial_into` meets its contract.
 use native.Mathlib.Omega.{arith}
 use Rattle.write_partial.proofs.Shown.{whole-room, whole-lined}
 use borrow.Author.Needs.{needs}

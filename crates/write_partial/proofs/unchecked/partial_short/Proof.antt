@@ -1,4 +1,4 @@
--- `partial::unchecked::partial_short` meets its contract. Assumes nothing.
+-- `write_partial::unchecked::partial_short` meets its contract.
 use Rattle.write_partial.proofs.Shown.{whole-short}
 use Rattle.write_partial.proofs.Widest.{whole-asked}
 use Rattle.write_partial.proofs.unchecked.partial_short.Statement.{statement}

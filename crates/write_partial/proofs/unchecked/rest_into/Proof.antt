@@ -1,4 +1,4 @@
--- `partial::unchecked::rest_into` meets its contract. Assumes nothing.
+-- `write_partial::unchecked::rest_into` meets its contract.
 use Rattle.write_escape.specs.Wrote.{wrote-both}
 use Rattle.write_partial.proofs.Asks.{rest-first, rest-then}
 use borrow.Author.Needs.{needs}

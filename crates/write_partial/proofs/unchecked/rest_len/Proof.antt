@@ -1,4 +1,4 @@
--- `partial::unchecked::rest_len` meets its contract. Assumes nothing.
+-- `write_partial::unchecked::rest_len` meets its contract.
 use native.Mathlib.Omega.{arith}
 use Rattle.write_partial.proofs.Asks.{rest-facts}
 use Rattle.write_partial.proofs.unchecked.rest_len.Statement.{statement}

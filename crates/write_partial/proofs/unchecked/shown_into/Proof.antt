@@ -1,4 +1,4 @@
--- `partial::unchecked::shown_into` meets its contract. Assumes nothing.
+-- `write_partial::unchecked::shown_into` meets its contract.
 use native.Mathlib.Omega.{arith}
 use Rattle.sheet.proofs.Look.{bounds}
 use Rattle.write_partial.proofs.Whole.{whole-asks, whole-done, before-asks, end-covers, end-last, end-done, range-covers, range-rest, range-done}

@@ -1,4 +1,4 @@
--- `partial::unchecked::shown_len` meets its contract. Assumes nothing.
+-- `write_partial::unchecked::shown_len` meets its contract.
 use native.Mathlib.Omega.{arith}
 use Rattle.sheet.proofs.Look.{bounds}
 use Rattle.write_partial.proofs.Whole.{whole-measures, whole-long, before-measures, range-text, end-sum, rest-measures, within-sum}

@@ -1,4 +1,4 @@
--- `partial::unchecked::shown_short` meets its contract. Assumes nothing.
+-- `write_partial::unchecked::shown_short` meets its contract.
 use Rattle.write_items.proofs.Room.{limited, short-most, short-enough, short-needed}
 use Rattle.write_partial.proofs.Count.{line-most}
 use borrow.Author.Needs.{needs}

@@ -1,4 +1,4 @@
--- `partial::unchecked::sign_of` meets its contract. Assumes nothing.
+-- `write_partial::unchecked::sign_of` meets its contract.
 use Rattle.sentence.specs.Writing.{sign}
 use Rattle.sheet.proofs.Look.{mark-none, mark-word, mark-unknown}
 use Rattle.write_partial.proofs.unchecked.sign_of.Statement.{statement}

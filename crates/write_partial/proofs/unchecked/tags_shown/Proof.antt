@@ -1,4 +1,4 @@
--- `partial::unchecked::tags_shown` meets its contract. Assumes nothing.
+-- `write_partial::unchecked::tags_shown` meets its contract.
 use Rattle.laws.proofs.Tests.{tests}
 use borrow.Author.Needs.{needs}
 use Rattle.write_partial.proofs.unchecked.tags_shown.Statement.{statement}

@@ -1,4 +1,4 @@
--- `tokenized::unchecked::gap_into` meets its contract. Assumes nothing.
+-- `write_tokenized::unchecked::gap_into` meets its contract.
 use mathlib.Core.Path.{refl}
 use native.Mathlib.Omega.{arith}
 use Rattle.write_tokenized.specs.Gaps.{gap}

@@ -1,4 +1,4 @@
--- `tokenized::unchecked::gap_len` meets its contract. Assumes nothing.
+-- `write_tokenized::unchecked::gap_len` meets its contract.
 use Rattle.write_tokenized.specs.Gaps.{gap}
 use Rattle.write_tokenized.proofs.unchecked.gap_len.Statement.{statement}
 use Rattle.write_tokenized.proofs.unchecked.gap_len.Tie as tie

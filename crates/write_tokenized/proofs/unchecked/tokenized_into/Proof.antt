@@ -1,4 +1,4 @@
--- `tokenized::unchecked::tokenized_into` meets its contract. The invariant: the tokens from the cursor on are left to write. Assumes nothing.
+-- `write_tokenized::unchecked::tokenized_into` meets its contract. The invariant: the tokens from the cursor on are left to write.
 use Prim.Native.Nat.{_-_}
 use native.Mathlib.Omega.{arith}
 use borrow.Author.Needs.{needs}

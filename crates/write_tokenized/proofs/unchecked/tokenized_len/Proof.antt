@@ -1,4 +1,4 @@
--- `tokenized::unchecked::tokenized_len` meets its contract. The invariant: with the tokens from the cursor on, the sum is the whole. Assumes nothing.
+-- `write_tokenized::unchecked::tokenized_len` meets its contract. The invariant: with the tokens from the cursor on, the sum is the whole.
 use Prim.Native.Nat.{_-_}
 use native.Mathlib.Omega.{arith}
 use borrow.Author.Needs.{needs}

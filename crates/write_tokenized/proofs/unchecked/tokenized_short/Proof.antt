@@ -1,4 +1,4 @@
--- `tokenized::unchecked::tokenized_short` meets its contract. Assumes nothing.
+-- `write_tokenized::unchecked::tokenized_short` meets its contract.
 use Rattle.write_items.proofs.Room.{limited, short-most, short-enough, short-needed}
 use Rattle.write_tokenized.proofs.Most.{line-most}
 use borrow.Author.Needs.{needs}

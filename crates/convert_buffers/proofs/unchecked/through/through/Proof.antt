@@ -1,4 +1,4 @@
--- `passage::unchecked::through::through` meets its contract: the buffers hold what was read, and it is written from them. Assumes nothing.
+-- `convert_buffers::unchecked::through::through` meets its contract: the buffers hold what was read, and it is written from them.
 use Rattle.convert_buffers.proofs.Rooms.{fill-fits, fill-sheet}
 use Rattle.convert_buffers.proofs.Passed.{through-written}
 use borrow.Author.Needs.{needs}

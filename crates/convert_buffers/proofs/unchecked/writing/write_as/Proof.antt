@@ -1,4 +1,4 @@
--- `convert_buffers::unchecked::writing::write_as` meets its contract. Assumes nothing.
+-- `convert_buffers::unchecked::writing::write_as` meets its contract.
 use Rattle.convert_buffers.proofs.Written.{as-raw, as-named}
 use borrow.Author.Needs.{needs}
 use Rattle.convert_buffers.proofs.unchecked.writing.write_as.Statement.{statement}

@@ -1,4 +1,4 @@
--- The proof of the cycle of calls {put_decimal}. The measure is the number. Assumes nothing.
+-- The proof of the cycle of calls {put_decimal}. The measure is the number.
 use Prim.Native.Nat.{ℕ, _<_}
 use borrow.Author.Needs.{needs}
 use native.Mathlib.Omega.{arith}

@@ -1,4 +1,4 @@
--- `respelling::unchecked::decimal::put_number` meets its contract: a number of 64 bits has at most 20 digits. Assumes nothing.
+-- `respelling::unchecked::decimal::put_number` meets its contract: a number of 64 bits has at most 20 digits.
 use Prim.Native.Nat.{_≤_}
 use native.Mathlib.Omega.{arith}
 use lib.ListN.{length}

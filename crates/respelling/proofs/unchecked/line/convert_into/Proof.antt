@@ -1,4 +1,4 @@
--- `respelling::unchecked::line::convert_into` meets its contract. Assumes nothing.
+-- `respelling::unchecked::line::convert_into` meets its contract.
 use Prim.Native.Nat.{_+_, _-_}
 use native.Mathlib.Omega.{arith}
 use Rattle.respelling.proofs.Answers.{into}

@@ -1,4 +1,4 @@
--- `respelling::unchecked::line::form` meets its contract. Assumes nothing.
+-- `respelling::unchecked::line::form` meets its contract.
 use Rattle.laws.proofs.Tests.{tests}
 use Rattle.sentence.specs.Forms.{letter}
 use Rattle.respelling.proofs.unchecked.line.form.Statement.{statement}

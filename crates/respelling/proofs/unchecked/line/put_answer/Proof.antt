@@ -1,4 +1,4 @@
--- `respelling::unchecked::line::put_answer` meets its contract. Assumes nothing.
+-- `respelling::unchecked::line::put_answer` meets its contract.
 use Rattle.respelling.proofs.Answers.{put-short, put-letters}
 use borrow.Author.Needs.{needs}
 use Rattle.respelling.proofs.unchecked.line.put_answer.Statement.{statement}

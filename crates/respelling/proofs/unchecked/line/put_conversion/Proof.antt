@@ -1,4 +1,4 @@
--- `respelling::unchecked::line::put_conversion` meets its contract. Assumes nothing.
+-- `respelling::unchecked::line::put_conversion` meets its contract.
 use Prim.Native.Nat.{_≤_}
 use native.Mathlib.Omega.{arith}
 use mathlib.Core.Path.{_≡_}

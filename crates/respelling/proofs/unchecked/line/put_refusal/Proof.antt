@@ -1,4 +1,4 @@
--- `respelling::unchecked::line::put_refusal` meets its contract. Assumes nothing.
+-- `respelling::unchecked::line::put_refusal` meets its contract.
 use mathlib.Core.Path.{_≡_}
 use native.Mathlib.Omega.{arith}
 use lib.ListN.{length, set, length-set}

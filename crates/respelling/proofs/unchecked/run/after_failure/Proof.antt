@@ -1,4 +1,4 @@
--- `respelling::unchecked::run::after_failure` meets its contract. Assumes nothing.
+-- `respelling::unchecked::run::after_failure` meets its contract.
 use Rattle.respelling.proofs.Calls.{failure-again, failure-ends}
 use Rattle.respelling.proofs.unchecked.run.after_failure.Statement.{statement}
 use Rattle.respelling.proofs.unchecked.run.after_failure.Tie as tie

@@ -1,4 +1,4 @@
--- `respelling::unchecked::run::after_read` meets its contract. Assumes nothing.
+-- `respelling::unchecked::run::after_read` meets its contract.
 use borrow.Author.Needs.{needs}
 use Rattle.respelling.proofs.Calls.{read-failed, read-moved}
 use Rattle.respelling.proofs.unchecked.run.after_read.Statement.{statement}

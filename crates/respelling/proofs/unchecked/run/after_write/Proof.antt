@@ -1,4 +1,4 @@
--- `respelling::unchecked::run::after_write` meets its contract. Assumes nothing.
+-- `respelling::unchecked::run::after_write` meets its contract.
 use borrow.Author.Needs.{needs}
 use Rattle.respelling.proofs.Calls.{write-failed, write-moved}
 use Rattle.respelling.proofs.unchecked.run.after_write.Statement.{statement}

@@ -1,4 +1,4 @@
--- `respelling::unchecked::run::answer` meets its contract. Assumes nothing.
+-- `respelling::unchecked::run::answer` meets its contract.
 use native.Mathlib.Omega.{arith}
 use Prim.Native.Nat.{_-_, _≤_}
 use borrow.Author.Needs.{needs}

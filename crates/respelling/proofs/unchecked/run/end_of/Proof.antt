@@ -1,4 +1,4 @@
--- `respelling::unchecked::run::end_of` meets its contract. Assumes nothing.
+-- `respelling::unchecked::run::end_of` meets its contract.
 use borrow.Author.Needs.{needs}
 use Rattle.respelling.proofs.Calls.{end-used, end-cut, end-kept}
 use Rattle.respelling.proofs.unchecked.run.end_of.Statement.{statement}

@@ -1,4 +1,4 @@
--- `respelling::unchecked::run::goes` meets its contract. Assumes nothing.
+-- `respelling::unchecked::run::goes` meets its contract.
 use mathlib.Core.Path.{refl}
 use Rattle.respelling.specs.Run.{goesOn}
 use Rattle.respelling.proofs.unchecked.run.goes.Statement.{statement}

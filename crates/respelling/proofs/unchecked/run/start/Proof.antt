@@ -1,4 +1,4 @@
--- `respelling::unchecked::run::start` meets its contract. Assumes nothing.
+-- `respelling::unchecked::run::start` meets its contract.
 use mathlib.Core.Path.{refl}
 use Rattle.respelling.specs.Run.{first}
 use Rattle.respelling.proofs.unchecked.run.start.Statement.{statement}

@@ -1,4 +1,4 @@
--- `respelling::unchecked::run::to_front` meets its contract. The invariant: the bytes from i on are left to move, and still stand behind n. Assumes nothing.
+-- `respelling::unchecked::run::to_front` meets its contract. The invariant: the bytes from i on are left to move, and still stand behind n.
 use Prim.Native.Nat.{_-_}
 use borrow.Author.Needs.{needs}
 use Rattle.respelling.proofs.Keeps.{Keeping, keep-start, keep-more, keep-done}

@@ -1,4 +1,4 @@
--- `respelling::unchecked::stream::line_len` meets its contract. The invariant: no LF stands before i. Assumes nothing.
+-- `respelling::unchecked::stream::line_len` meets its contract. The invariant: no LF stands before i.
 use Prim.Native.Nat.{_-_}
 use borrow.Author.Needs.{needs}
 use lib.ListN.{length}

@@ -1,4 +1,6 @@
--- `respelling::unchecked::stream::respell` meets its contract. The invariant: what is used and written so far, with what is still to be done, is the whole turn. Assumes nothing.
+-- `respelling::unchecked::stream::respell` meets its contract.
+
+-- The invariant: what is used and written so far, with what is still to be done, is the whole turn.
 use Prim.Native.Nat.{_-_, _+_, _≤_}
 use native.Mathlib.Omega.{arith}
 use borrow.Author.Needs.{needs}

@@ -1,4 +1,4 @@
--- `respelling::unchecked::stream::step` meets its contract. Assumes nothing.
+-- `respelling::unchecked::stream::step` meets its contract.
 use native.Mathlib.Omega.{arith}
 use lib.ListN.{length-take}
 use Rattle.respelling.proofs.Steps.{step-full, step-cut, step-last, step-waits}
