@@ -6,8 +6,8 @@ where. The last line counts what was compared.
 
 A function is a `pub fn` of crates/NAME/src, also one in an `impl`. Its name is the path of its definition: `crate::module::function`,
 `crate::module::Type::method`. It is internal where it stands in a module `unchecked` or below one, in a module that its crate keeps
-private and does not hand on with `pub use`, in a program (src/main.rt), or in a library of the programs that run cases (`test_casework`
-and each crate that leans on it, by crates.txt). Any other is public.
+private and does not hand on with `pub use`, in a program (src/main.rt), or in a crate of the programs that run cases (`test_*`). Any other
+is public.
 
 - Each function stands in one place. A public one has a block of the section 'Public functions': a heading `### ` with its name in backquotes, or
   with several, and below it the items `- promise:`, `- settled by:`, `- ruled out:` and `- compared by:`. An internal one stands in an item of the section
@@ -82,7 +82,6 @@ def modules_of(crate, path):
 
 def sources(faults):
     """Every `pub fn` of the sources."""
-    leans = leanings()
     functions = {}
     for crate in sorted(os.path.basename(os.path.dirname(p)) for p in glob("crates/*/src")):
         paths = sorted(glob(f"crates/{crate}/src/**/*.rt", recursive=True))
@@ -113,7 +112,7 @@ def sources(faults):
                 internal = (
                     "unchecked" in modules[1:]
                     or program
-                    or "test_casework" in leans.get(crate, ()) | {crate}
+                    or crate.startswith("test_")
                     or not (open_way or handed_on)
                 )
                 line = text.count("\n", 0, found.end()) + 1
@@ -122,27 +121,6 @@ def sources(faults):
                 said = text[found.start() : heading(text, found.end())]
                 functions[name] = Function(f"{path}:{line}", internal, said)
     return functions
-
-
-def leanings():
-    """What each crate leans on, by crates.txt, at any remove."""
-    direct = {}
-    for line in open("crates.txt", encoding="utf-8"):
-        words = line.split("#")[0].split(":")
-        if len(words) == 2:
-            direct[words[0].strip()] = set(words[1].split())
-    known = {}
-
-    def reach(crate, on):
-        if crate not in known:
-            known[crate] = set()
-            for below in direct.get(crate, ()):
-                known[crate] |= {below} | reach(below, on | {crate})
-        return known[crate]
-
-    for crate in direct:
-        reach(crate, set())
-    return known
 
 
 class Said:

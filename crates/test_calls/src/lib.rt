@@ -1,49 +1,67 @@
-// The calls on a sheet that a question asks for, each with its small answer by value.
+// The calls on a sheet that a question asks for, each with its small answer by value; and what a case changes of a sheet.
+use changes::reset_tags;
+use changes::set_boundary;
+use lookups::boundary;
+use lookups::char_to_str_pos;
+use lookups::str_to_char_pos;
+use lookups::surface;
+use lookups::tag;
+use scores::predict;
 use sheet::Answer;
 use sheet::Number;
 use sheet::Record;
 use sheet::Slice;
-use test_casework::field;
+use test_casework::at_most;
 use test_casework::find;
-use test_casework::first;
-use test_casework::number;
 use test_casework::signed;
 use test_casework::within;
 use tokens::Next;
+use tokens::next_token;
 ghost use Prim.Native.Nat.{_≤_};
-
-// The most room of a buffer: what a line of 4,096 bytes can need, but for its cells.
-pub const MOST: usize = 4097;
 
 // What a look-up found: a number, a part of the text or of the tags, or a step of the token cursor.
 pub enum Found {
     Number(Number),
-    Surface(Slice),
+    Text(Slice),
     Tag(Slice),
     Step(Next),
 }
 
-// A number, and the most where it is more.
-pub fn at_most(n: usize, most: usize) -> usize
-    ensures { λ r. ⌜ r ≤ most ⌝ }
+// What is changed of a sheet. N, B, C, E, G: that number of the record is the value, C the columns and E the cells. L: of the
+// buffer with the index only so many elements are lent.
+pub struct Damage {
+    pub letter: u8,
+    pub index: usize,
+    pub value: usize,
+}
+
+// How much of a buffer is lent.
+pub fn lent(d: Damage, which: usize, whole: usize) -> usize
+    ensures { λ r. ⌜ r ≤ whole ⌝ }
 {
-    if n <= most {
-        return n;
+    if (d.letter == b'L') & (d.index == which) {
+        return at_most(d.value, whole);
     }
-    most
+    whole
 }
 
-// The number of a field, as a place.
-pub fn place(line: &[u8], k: usize) -> usize {
-    number(field(line, k)) as usize
+// A number of the record: the value where its letter is the one given.
+fn counted(d: Damage, letter: u8, n: usize) -> usize {
+    if d.letter == letter {
+        return d.value;
+    }
+    n
 }
 
-// A value of 8 bits, and the largest for one that has more.
-fn small(n: u64) -> u8 {
-    if n <= 255 {
-        return n as u8;
+// The record with what is changed of it.
+pub fn record(d: Damage, r: Record) -> Record {
+    Record {
+        n: counted(d, b'N', r.n),
+        b: counted(d, b'B', r.b),
+        columns: counted(d, b'C', r.columns),
+        cells: counted(d, b'E', r.cells),
+        g: counted(d, b'G', r.g),
     }
-    255
 }
 
 // Puts the numbers of a list, and answers how many there are.
@@ -73,249 +91,58 @@ fn scores_to<'a>(scores: &'a [i32], n: usize) -> &'a [i32] {
     scores
 }
 
-// S F LINE SCORES: boundaries by scores.
-fn predict(
-    line: &[u8],
+// The change of a letter: a boundary is set, tags are reset, or boundaries follow listed scores; other letters ask for none.
+pub fn change(
+    call: u8,
     r: Record,
     text: &[u8],
     types: &[u8],
-    boundaries: &mut [u8],
-    char_pos: &[u16],
-    byte_pos: &[u16],
-    cell_starts: &[u16],
-    cell_lengths: &[u16],
-    tag_bytes: &[u8],
+    marks: &mut [u8],
+    chars: &[u16],
+    bytes: &[u16],
+    cells: &mut [u16],
+    lens: &mut [u16],
+    tags: &[u8],
+    a: usize,
+    v: u8,
+    list: &[u8],
 ) -> Answer {
     let mut given = [0i32; 16];
-    let n = scores_of(field(line, 3), &mut given);
-    scores::predict(
-        r,
-        text,
-        types,
-        boundaries,
-        char_pos,
-        byte_pos,
-        cell_starts,
-        cell_lengths,
-        tag_bytes,
-        scores_to(&given, n),
-    )
+    let n = scores_of(list, &mut given);
+    let zs = scores_to(&given, n);
+    match call {
+        b'B' | b'm' => set_boundary(r, text, types, marks, chars, bytes, cells, lens, tags, a, v),
+        b'C' | b'r' => reset_tags(r, text, types, marks, chars, bytes, cells, lens, tags, a),
+        b'S' | b'p' => predict(r, text, types, marks, chars, bytes, cells, lens, tags, zs),
+        _ => Answer::Sentence(r),
+    }
 }
 
-// The change that a question asks for: B F LINE INDEX VALUE, C F LINE COUNT, or S; others ask for none.
-pub fn change(
-    line: &[u8],
-    r: Record,
-    text: &[u8; MOST],
-    types: &[u8; MOST],
-    boundaries: &mut [u8; MOST],
-    char_pos: &[u16; MOST],
-    byte_pos: &[u16; MOST],
-    cell_starts: &mut [u16; MOST],
-    cell_lengths: &mut [u16; MOST],
-    tag_bytes: &[u8; MOST],
-) -> Answer {
-    let kind = first(line);
-    if kind == b'B' {
-        let value = small(number(field(line, 4)));
-        return changes::set_boundary(
-            r,
-            text,
-            types,
-            boundaries,
-            char_pos,
-            byte_pos,
-            cell_starts,
-            cell_lengths,
-            tag_bytes,
-            place(line, 3),
-            value,
-        );
-    }
-    if kind == b'C' {
-        return changes::reset_tags(
-            r,
-            text,
-            types,
-            boundaries,
-            char_pos,
-            byte_pos,
-            cell_starts,
-            cell_lengths,
-            tag_bytes,
-            place(line, 3),
-        );
-    }
-    if kind == b'S' {
-        return predict(
-            line,
-            r,
-            text,
-            types,
-            boundaries,
-            char_pos,
-            byte_pos,
-            cell_starts,
-            cell_lengths,
-            tag_bytes,
-        );
-    }
-    Answer::Sentence(r)
-}
-
-// A look-up of a position or a boundary.
-fn look_number(
+// The look-up of a letter, or N: a step of the token cursor.
+pub fn look(
     which: u8,
     r: Record,
     text: &[u8],
     types: &[u8],
-    boundaries: &[u8],
-    char_pos: &[u16],
-    byte_pos: &[u16],
-    cell_starts: &[u16],
-    cell_lengths: &[u16],
-    tag_bytes: &[u8],
+    marks: &[u8],
+    chars: &[u16],
+    bytes: &[u16],
+    cells: &[u16],
+    lens: &[u16],
+    tags: &[u8],
     a: usize,
-) -> Number {
-    if which == b'c' {
-        return lookups::char_to_str_pos(
-            r,
-            text,
-            types,
-            boundaries,
-            char_pos,
-            byte_pos,
-            cell_starts,
-            cell_lengths,
-            tag_bytes,
-            a,
-        );
-    }
-    if which == b's' {
-        return lookups::str_to_char_pos(
-            r,
-            text,
-            types,
-            boundaries,
-            char_pos,
-            byte_pos,
-            cell_starts,
-            cell_lengths,
-            tag_bytes,
-            a,
-        );
-    }
-    lookups::boundary(
-        r,
-        text,
-        types,
-        boundaries,
-        char_pos,
-        byte_pos,
-        cell_starts,
-        cell_lengths,
-        tag_bytes,
-        a,
-    )
-}
-
-// Q WHICH F LINE NUMBERS: a look-up.
-fn look_up(
-    line: &[u8],
-    r: Record,
-    text: &[u8],
-    types: &[u8],
-    boundaries: &[u8],
-    char_pos: &[u16],
-    byte_pos: &[u16],
-    cell_starts: &[u16],
-    cell_lengths: &[u16],
-    tag_bytes: &[u8],
+    b: usize,
 ) -> Found {
-    let which = first(field(line, 1));
-    let a = place(line, 4);
-    if which == b't' {
-        return Found::Tag(lookups::tag(
-            r,
-            text,
-            types,
-            boundaries,
-            char_pos,
-            byte_pos,
-            cell_starts,
-            cell_lengths,
-            tag_bytes,
-            a,
-            place(line, 5),
-        ));
+    match which {
+        b't' => Found::Tag(tag(r, text, types, marks, chars, bytes, cells, lens, tags, a, b)),
+        b'u' => Found::Text(surface(r, text, types, marks, chars, bytes, cells, lens, tags, a, b)),
+        b'N' => Found::Step(next_token(r, text, types, marks, chars, bytes, cells, lens, tags, a)),
+        _ => Found::Number(
+            match which {
+                b'c' => char_to_str_pos(r, text, types, marks, chars, bytes, cells, lens, tags, a),
+                b's' => str_to_char_pos(r, text, types, marks, chars, bytes, cells, lens, tags, a),
+                _ => boundary(r, text, types, marks, chars, bytes, cells, lens, tags, a),
+            },
+        ),
     }
-    if which == b'u' {
-        return Found::Surface(lookups::surface(
-            r,
-            text,
-            types,
-            boundaries,
-            char_pos,
-            byte_pos,
-            cell_starts,
-            cell_lengths,
-            tag_bytes,
-            a,
-            place(line, 5),
-        ));
-    }
-    Found::Number(look_number(
-        which,
-        r,
-        text,
-        types,
-        boundaries,
-        char_pos,
-        byte_pos,
-        cell_starts,
-        cell_lengths,
-        tag_bytes,
-        a,
-    ))
-}
-
-// A look-up, or N F LINE PLACE: a step of the token cursor.
-pub fn look(
-    line: &[u8],
-    r: Record,
-    text: &[u8],
-    types: &[u8],
-    boundaries: &[u8],
-    char_pos: &[u16],
-    byte_pos: &[u16],
-    cell_starts: &[u16],
-    cell_lengths: &[u16],
-    tag_bytes: &[u8],
-) -> Found {
-    if first(line) == b'N' {
-        return Found::Step(tokens::next_token(
-            r,
-            text,
-            types,
-            boundaries,
-            char_pos,
-            byte_pos,
-            cell_starts,
-            cell_lengths,
-            tag_bytes,
-            place(line, 3),
-        ));
-    }
-    look_up(
-        line,
-        r,
-        text,
-        types,
-        boundaries,
-        char_pos,
-        byte_pos,
-        cell_starts,
-        cell_lengths,
-        tag_bytes,
-    )
 }

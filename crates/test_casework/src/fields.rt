@@ -64,13 +64,10 @@ pub fn field<'a>(line: &'a [u8], k: usize) -> &'a [u8] {
 fn digit(b: u8) -> u64
     ensures { λ r. ⌜ r ≤ 10 ⌝ }
 {
-    if b < 48 {
-        return 10;
+    match b {
+        48..=57 => (b - 48) as u64,
+        _ => 10,
     }
-    if b > 57 {
-        return 10;
-    }
-    (b - 48) as u64
 }
 
 // The number that a field starts with.
@@ -89,6 +86,35 @@ pub fn number(s: &[u8]) -> u64 {
         i += 1;
     }
     n
+}
+
+// A number, and the most where it is more.
+pub fn at_most(n: usize, most: usize) -> usize
+    ensures { λ r. ⌜ r ≤ most ⌝ }
+{
+    if n <= most {
+        return n;
+    }
+    most
+}
+
+// The number of a field, as a place; behind `~` it is counted down from the largest.
+pub fn place(line: &[u8], k: usize) -> usize {
+    let f = field(line, k);
+    if first(f) == b'~' {
+        return !number(within(f, 1, f.len())) as usize;
+    }
+    number(f) as usize
+}
+
+// The number of a field, as a byte, and 255 where it is more.
+pub fn byte(line: &[u8], k: usize) -> u8 {
+    at_most(place(line, k), 255) as u8
+}
+
+// The item with a number, counted from 0, of numbers that commas join.
+pub fn listed(s: &[u8], k: usize) -> usize {
+    number(item(s, k, b',')) as usize
 }
 
 // A number of 31 bits, and the largest for one that has more.

@@ -7,25 +7,12 @@ ghost use lib.ListN.{length};
 
 // The value of a hex digit, and 16 of what is none.
 fn digit(b: u8) -> u8 {
-    if b < 48 {
-        return 16;
+    match b {
+        48..=57 => b - 48,
+        65..=70 => b - 55,
+        97..=102 => b - 87,
+        _ => 16,
     }
-    if b <= 57 {
-        return b - 48;
-    }
-    if b < 65 {
-        return 16;
-    }
-    if b <= 70 {
-        return b - 55;
-    }
-    if b < 97 {
-        return 16;
-    }
-    if b <= 102 {
-        return b - 87;
-    }
-    16
 }
 
 // The byte of two digits, and 256 of what are not two.

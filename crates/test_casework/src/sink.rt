@@ -110,39 +110,39 @@ impl Sink {
         self
     }
 
-    // Puts bytes as they are.
-    pub fn text(self, s: &[u8]) -> Self {
+    // Puts a byte: as it is, as a digit, or in hex.
+    fn shown(self, how: u8, b: u8) -> Self {
+        match how {
+            b't' => self.put(b),
+            b'd' => self.put(glyph(b)),
+            _ => self.put(glyph(b / 16)).put(glyph(b % 16)),
+        }
+    }
+
+    // Puts bytes, each in the same way.
+    fn each(self, how: u8, s: &[u8]) -> Self {
         let mut sink = self;
         let mut i = 0;
         while i < s.len() {
-            sink = sink.put(s[i]);
+            sink = sink.shown(how, s[i]);
             i += 1;
         }
         sink
+    }
+
+    // Puts bytes as they are.
+    pub fn text(self, s: &[u8]) -> Self {
+        self.each(b't', s)
     }
 
     // Puts bytes in hex.
     pub fn hex(self, s: &[u8]) -> Self {
-        let mut sink = self.dot(s.len());
-        let mut i = 0;
-        while i < s.len() {
-            let b = s[i];
-            sink = sink.put(glyph(b / 16));
-            sink = sink.put(glyph(b % 16));
-            i += 1;
-        }
-        sink
+        self.dot(s.len()).each(b'h', s)
     }
 
     // Puts a digit for each byte.
     pub fn digits(self, s: &[u8]) -> Self {
-        let mut sink = self.dot(s.len());
-        let mut i = 0;
-        while i < s.len() {
-            sink = sink.put(glyph(s[i]));
-            i += 1;
-        }
-        sink
+        self.dot(s.len()).each(b'd', s)
     }
 
     // Puts a number.

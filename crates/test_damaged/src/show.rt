@@ -1,10 +1,12 @@
 // Writes the answers.
-use crate::damage::at_most;
 use sentence::Refusal;
 use sheet::Answer;
 use sheet::Number;
 use sheet::Slice;
+use test_calls::Found;
 use test_casework::Sink;
+use test_casework::at_most;
+use test_casework::within;
 use test_casework::within16;
 
 // Writes a number and a space.
@@ -21,7 +23,7 @@ fn refusal(x: Refusal) {
 }
 
 // Writes a number that was asked for.
-pub fn number(a: Number) {
+fn number(a: Number) {
     match a {
         Number::Is(n) => {
             io::print_decimal(1, n as u64);
@@ -33,7 +35,7 @@ pub fn number(a: Number) {
 }
 
 // Writes where a part starts and ends.
-pub fn slice(a: Slice) {
+fn slice(a: Slice) {
     match a {
         Slice::Bytes { start, end } => {
             spaced(start);
@@ -45,6 +47,19 @@ pub fn slice(a: Slice) {
         Slice::Refused(x) => {
             refusal(x);
         }
+    }
+}
+
+// Writes what a look-up found.
+pub fn found(f: Found) {
+    match f {
+        Found::Number(a) => {
+            number(a);
+        }
+        Found::Text(a) | Found::Tag(a) => {
+            slice(a);
+        }
+        Found::Step(_) => {}
     }
 }
 
@@ -65,11 +80,11 @@ pub fn answer(a: Answer) {
 }
 
 // Writes what a change left of the buffers that it may alter: as much as is lent, eight elements at the most.
-pub fn left(boundaries: &[u8], cell_starts: &[u16], cell_lengths: &[u16]) {
-    let n2 = at_most(8, boundaries.len());
-    let n5 = at_most(8, cell_starts.len());
-    let n6 = at_most(8, cell_lengths.len());
-    let marks = Sink::new().digits_field(test_casework::within(boundaries, 0, n2));
-    let starts = marks.numbers_field(within16(cell_starts, 0, n5));
-    starts.numbers_field(within16(cell_lengths, 0, n6)).flush();
+pub fn left(marks: &[u8], cells: &[u16], lens: &[u16]) {
+    let n2 = at_most(8, marks.len());
+    let n5 = at_most(8, cells.len());
+    let n6 = at_most(8, lens.len());
+    let begun = Sink::new().digits_field(within(marks, 0, n2));
+    let half = begun.numbers_field(within16(cells, 0, n5));
+    half.numbers_field(within16(lens, 0, n6)).flush();
 }

@@ -3,21 +3,13 @@ use sentence::Refusal;
 use sheet::Number;
 use sheet::Record;
 use test_casework::Sink;
+use test_casework::at_most;
 use test_casework::within;
-ghost use Prim.Native.Nat.{_≤_};
+use write::note_key;
+use write::write_withheld_text;
 
 // What the output is full of before a call: no written line has this byte.
 const MARK: u8 = 255;
-
-// A number, and the most where it is more.
-fn at_most(n: usize, most: usize) -> usize
-    ensures { λ r. ⌜ r ≤ most ⌝ }
-{
-    if n <= most {
-        return n;
-    }
-    most
-}
 
 // Fills the output with the mark.
 fn fill(out: &mut [u8]) {
@@ -65,49 +57,18 @@ fn told(a: Number, out: &[u8], sink: Sink) -> Sink {
     }
 }
 
-// The key, with as much of the output lent as there is to be room.
-pub fn key(
+// The key or the copy of a range, with as much of the output lent as there is to be room.
+pub fn one(
+    key: bool,
     r: Record,
     text: &[u8],
     types: &[u8],
-    boundaries: &[u8],
-    char_pos: &[u16],
-    byte_pos: &[u16],
-    cell_starts: &[u16],
-    cell_lengths: &[u16],
-    tag_bytes: &[u8],
-    room: usize,
-    out: &mut [u8],
-    sink: Sink,
-) -> Sink {
-    fill(out);
-    let n = at_most(room, out.len());
-    let a = write::note_key(
-        r,
-        text,
-        types,
-        boundaries,
-        char_pos,
-        byte_pos,
-        cell_starts,
-        cell_lengths,
-        tag_bytes,
-        &mut out[..n],
-    );
-    told(a, out, sink)
-}
-
-// The copy of a range, with as much of the output lent as there is to be room.
-pub fn copy(
-    r: Record,
-    text: &[u8],
-    types: &[u8],
-    boundaries: &[u8],
-    char_pos: &[u16],
-    byte_pos: &[u16],
-    cell_starts: &[u16],
-    cell_lengths: &[u16],
-    tag_bytes: &[u8],
+    marks: &[u8],
+    chars: &[u16],
+    bytes: &[u16],
+    cells: &[u16],
+    lens: &[u16],
+    tags: &[u8],
     start: usize,
     end: usize,
     room: usize,
@@ -116,100 +77,34 @@ pub fn copy(
 ) -> Sink {
     fill(out);
     let n = at_most(room, out.len());
-    let a = write::write_withheld_text(
+    if key {
+        let a = note_key(
+            r,
+            text,
+            types,
+            marks,
+            chars,
+            bytes,
+            cells,
+            lens,
+            tags,
+            &mut out[..n],
+        );
+        return told(a, out, sink);
+    }
+    let a = write_withheld_text(
         r,
         text,
         types,
-        boundaries,
-        char_pos,
-        byte_pos,
-        cell_starts,
-        cell_lengths,
-        tag_bytes,
+        marks,
+        chars,
+        bytes,
+        cells,
+        lens,
+        tags,
         start,
         end,
         &mut out[..n],
     );
     told(a, out, sink)
-}
-
-// The copies of the ranges with one start: the ends are below a number.
-fn ends(
-    r: Record,
-    text: &[u8],
-    types: &[u8],
-    boundaries: &[u8],
-    char_pos: &[u16],
-    byte_pos: &[u16],
-    cell_starts: &[u16],
-    cell_lengths: &[u16],
-    tag_bytes: &[u8],
-    start: usize,
-    below: usize,
-    room: usize,
-    out: &mut [u8],
-    sink: Sink,
-) -> Sink {
-    let mut end = 0;
-    let mut so_far = sink;
-    while end < below {
-        so_far = copy(
-            r,
-            text,
-            types,
-            boundaries,
-            char_pos,
-            byte_pos,
-            cell_starts,
-            cell_lengths,
-            tag_bytes,
-            start,
-            end,
-            room,
-            out,
-            so_far,
-        );
-        end += 1;
-    }
-    so_far
-}
-
-// The copies of every range from 0 to one past the characters.
-pub fn all(
-    r: Record,
-    text: &[u8],
-    types: &[u8],
-    boundaries: &[u8],
-    char_pos: &[u16],
-    byte_pos: &[u16],
-    cell_starts: &[u16],
-    cell_lengths: &[u16],
-    tag_bytes: &[u8],
-    room: usize,
-    out: &mut [u8],
-    sink: Sink,
-) -> Sink {
-    let below = at_most(r.n, 4096) + 2;
-    let mut start = 0;
-    let mut so_far = sink;
-    while start < below {
-        so_far = ends(
-            r,
-            text,
-            types,
-            boundaries,
-            char_pos,
-            byte_pos,
-            cell_starts,
-            cell_lengths,
-            tag_bytes,
-            start,
-            below,
-            room,
-            out,
-            so_far,
-        );
-        start += 1;
-    }
-    so_far
 }

@@ -2,10 +2,16 @@
 use crate::copies;
 use sheet::Answer;
 use sheet::Record;
+use std::num::wrapping_add_usize;
+use test_asking::ask_into;
+use test_calls::Damage;
+use test_calls::lent;
+use test_calls::record;
 use test_casework::Sink;
+use test_casework::at_most;
 use test_casework::field;
 use test_casework::first;
-use test_casework::number;
+use test_casework::place;
 use test_casework::repeated;
 use test_casework::within;
 use test_casework::within16;
@@ -31,106 +37,73 @@ const MANY: usize = 400000;
 // The length of the output beside the large buffers.
 const MOST: usize = 16384;
 
-// The number of a field.
-fn place(line: &[u8], k: usize) -> usize {
-    let f = field(line, k);
-    if first(f) == b'~' {
-        return !number(within(f, 1, f.len())) as usize;
-    }
-    number(f) as usize
-}
-
-// How much of a buffer is lent.
-fn lent(line: &[u8], which: usize, whole: usize) -> usize {
-    if (first(field(line, 4)) == b'L') & (place(line, 5) == which) {
-        return place(line, 6);
-    }
-    whole
-}
-
-// A number of the record: the value where its letter is the one given.
-fn counted(line: &[u8], letter: u8, n: usize) -> usize {
-    if first(field(line, 4)) == letter {
-        return place(line, 6);
-    }
-    n
-}
-
-// The record with what is changed of it.
-fn record(line: &[u8], r: Record) -> Record {
-    Record {
-        n: counted(line, b'N', r.n),
-        b: counted(line, b'B', r.b),
-        columns: counted(line, b'C', r.columns),
-        cells: counted(line, b'E', r.cells),
-        g: counted(line, b'G', r.g),
+// What is changed of the sheet.
+fn damage(line: &[u8]) -> Damage {
+    Damage {
+        letter: first(field(line, 4)),
+        index: place(line, 5),
+        value: place(line, 6),
     }
 }
 
-// What a question asks for, out of a sheet.
+// What the starts and the ends of every range are below, and 0 where one is asked for.
+fn below(line: &[u8], r: Record) -> usize {
+    if first(line) == b'A' {
+        return at_most(r.n, 4096) + 2;
+    }
+    0
+}
+
+// What a question asks for, out of a sheet; the turns are counted down from a number that no question uses up.
 fn told(
     line: &[u8],
     r: Record,
     text: &[u8],
     types: &[u8],
-    boundaries: &[u8],
-    char_pos: &[u16],
-    byte_pos: &[u16],
-    cell_starts: &[u16],
-    cell_lengths: &[u16],
-    tag_bytes: &[u8],
+    marks: &[u8],
+    chars: &[u16],
+    bytes: &[u16],
+    cells: &[u16],
+    lens: &[u16],
+    tags: &[u8],
     out: &mut [u8],
     sink: Sink,
 ) -> Sink {
-    let room = place(line, 3);
-    if first(line) == b'A' {
-        return copies::all(
+    let key = first(line) == b'K';
+    let most = below(line, r);
+    let mut start = place(line, 7);
+    let mut end = place(line, 8);
+    let mut so_far = sink;
+    let mut turns = u64::MAX;
+    while turns > 0 {
+        so_far = copies::one(
+            key,
             r,
             text,
             types,
-            boundaries,
-            char_pos,
-            byte_pos,
-            cell_starts,
-            cell_lengths,
-            tag_bytes,
-            room,
+            marks,
+            chars,
+            bytes,
+            cells,
+            lens,
+            tags,
+            start,
+            end,
+            place(line, 3),
             out,
-            sink,
+            so_far,
         );
+        end = wrapping_add_usize(end, 1);
+        if end >= most {
+            end = 0;
+            start = wrapping_add_usize(start, 1);
+        }
+        if start >= most {
+            return so_far;
+        }
+        turns -= 1;
     }
-    if first(line) == b'K' {
-        return copies::key(
-            r,
-            text,
-            types,
-            boundaries,
-            char_pos,
-            byte_pos,
-            cell_starts,
-            cell_lengths,
-            tag_bytes,
-            room,
-            out,
-            sink,
-        );
-    }
-    copies::copy(
-        r,
-        text,
-        types,
-        boundaries,
-        char_pos,
-        byte_pos,
-        cell_starts,
-        cell_lengths,
-        tag_bytes,
-        place(line, 7),
-        place(line, 8),
-        room,
-        out,
-        sink,
-    )
+    so_far
 }
 
 // The answer on what was read: a sentence has what is changed of its record, and as much of each buffer as is lent.
@@ -139,27 +112,28 @@ fn served(
     a: Answer,
     text: &[u8],
     types: &[u8],
-    boundaries: &[u8],
-    char_pos: &[u16],
-    byte_pos: &[u16],
-    cell_starts: &[u16],
-    cell_lengths: &[u16],
-    tag_bytes: &[u8],
+    marks: &[u8],
+    chars: &[u16],
+    bytes: &[u16],
+    cells: &[u16],
+    lens: &[u16],
+    tags: &[u8],
     out: &mut [u8],
     sink: Sink,
 ) -> Sink {
+    let d = damage(line);
     match a {
         Answer::Sentence(r) => told(
             line,
-            record(line, r),
-            within(text, 0, lent(line, 0, text.len())),
-            within(types, 0, lent(line, 1, types.len())),
-            within(boundaries, 0, lent(line, 2, boundaries.len())),
-            within16(char_pos, 0, lent(line, 3, char_pos.len())),
-            within16(byte_pos, 0, lent(line, 4, byte_pos.len())),
-            within16(cell_starts, 0, lent(line, 5, cell_starts.len())),
-            within16(cell_lengths, 0, lent(line, 6, cell_lengths.len())),
-            within(tag_bytes, 0, lent(line, 7, tag_bytes.len())),
+            record(d, r),
+            within(text, 0, lent(d, 0, text.len())),
+            within(types, 0, lent(d, 1, types.len())),
+            within(marks, 0, lent(d, 2, marks.len())),
+            within16(chars, 0, lent(d, 3, chars.len())),
+            within16(bytes, 0, lent(d, 4, bytes.len())),
+            within16(cells, 0, lent(d, 5, cells.len())),
+            within16(lens, 0, lent(d, 6, lens.len())),
+            within(tags, 0, lent(d, 7, tags.len())),
             out,
             sink,
         ),
@@ -167,150 +141,81 @@ fn served(
     }
 }
 
-// Reads a line of a form.
-fn load(
-    form: u8,
-    line: &[u8],
-    text: &mut [u8],
-    types: &mut [u8],
-    boundaries: &mut [u8],
-    char_pos: &mut [u16],
-    byte_pos: &mut [u16],
-    cell_starts: &mut [u16],
-    cell_lengths: &mut [u16],
-    tag_bytes: &mut [u8],
-) -> Answer {
-    if form == b'R' {
-        return read::from_raw(
-            line,
-            text,
-            types,
-            boundaries,
-            char_pos,
-            byte_pos,
-            cell_starts,
-            cell_lengths,
-            tag_bytes,
-        );
-    }
-    if form == b'T' {
-        return read::from_tokenized(
-            line,
-            text,
-            types,
-            boundaries,
-            char_pos,
-            byte_pos,
-            cell_starts,
-            cell_lengths,
-            tag_bytes,
-        );
-    }
-    read::from_partial_annotation(
-        line,
-        text,
-        types,
-        boundaries,
-        char_pos,
-        byte_pos,
-        cell_starts,
-        cell_lengths,
-        tag_bytes,
-    )
-}
-
-// The answer to a question whose line has these bytes, by way of a sheet and an output.
-fn by_way(
-    line: &[u8],
-    bytes: &[u8],
-    text: &mut [u8],
-    types: &mut [u8],
-    boundaries: &mut [u8],
-    char_pos: &mut [u16],
-    byte_pos: &mut [u16],
-    cell_starts: &mut [u16],
-    cell_lengths: &mut [u16],
-    tag_bytes: &mut [u8],
-    out: &mut [u8],
-    sink: Sink,
-) -> Sink {
-    let a = load(
+// The answer to a question whose line is given, by way of the small buffers, which are cleared sooner.
+fn small(line: &[u8], given: &[u8], sink: Sink) -> Sink {
+    let mut text = [0u8; SMALL];
+    let mut types = [0u8; SMALL];
+    let mut marks = [0u8; SMALL];
+    let mut chars = [0u16; SMALL];
+    let mut bytes = [0u16; SMALL];
+    let mut cells = [0u16; FEW];
+    let mut lens = [0u16; FEW];
+    let mut tags = [0u8; SMALL];
+    let mut out = [0u8; LITTLE];
+    let a = ask_into(
+        false,
         first(field(line, 1)),
-        bytes,
-        text,
-        types,
-        boundaries,
-        char_pos,
-        byte_pos,
-        cell_starts,
-        cell_lengths,
-        tag_bytes,
+        given,
+        &mut text,
+        &mut types,
+        &mut marks,
+        &mut chars,
+        &mut bytes,
+        &mut cells,
+        &mut lens,
+        &mut tags,
     );
     served(
         line,
         a,
-        text,
-        types,
-        boundaries,
-        char_pos,
-        byte_pos,
-        cell_starts,
-        cell_lengths,
-        tag_bytes,
-        out,
-        sink,
-    )
-}
-
-// The same by way of the small buffers, which are cleared sooner.
-fn small(line: &[u8], bytes: &[u8], sink: Sink) -> Sink {
-    let mut text = [0u8; SMALL];
-    let mut types = [0u8; SMALL];
-    let mut boundaries = [0u8; SMALL];
-    let mut char_pos = [0u16; SMALL];
-    let mut byte_pos = [0u16; SMALL];
-    let mut cell_starts = [0u16; FEW];
-    let mut cell_lengths = [0u16; FEW];
-    let mut tag_bytes = [0u8; SMALL];
-    let mut out = [0u8; LITTLE];
-    by_way(
-        line,
-        bytes,
-        &mut text,
-        &mut types,
-        &mut boundaries,
-        &mut char_pos,
-        &mut byte_pos,
-        &mut cell_starts,
-        &mut cell_lengths,
-        &mut tag_bytes,
+        &text,
+        &types,
+        &marks,
+        &chars,
+        &bytes,
+        &cells,
+        &lens,
+        &tags,
         &mut out,
         sink,
     )
 }
 
 // The same by way of the large buffers.
-fn large(line: &[u8], bytes: &[u8], sink: Sink) -> Sink {
+fn large(line: &[u8], given: &[u8], sink: Sink) -> Sink {
     let mut text = [0u8; LARGE];
     let mut types = [0u8; LARGE];
-    let mut boundaries = [0u8; LARGE];
-    let mut char_pos = [0u16; LARGE];
-    let mut byte_pos = [0u16; LARGE];
-    let mut cell_starts = [0u16; MANY];
-    let mut cell_lengths = [0u16; MANY];
-    let mut tag_bytes = [0u8; LARGE];
+    let mut marks = [0u8; LARGE];
+    let mut chars = [0u16; LARGE];
+    let mut bytes = [0u16; LARGE];
+    let mut cells = [0u16; MANY];
+    let mut lens = [0u16; MANY];
+    let mut tags = [0u8; LARGE];
     let mut out = [0u8; MOST];
-    by_way(
-        line,
-        bytes,
+    let a = ask_into(
+        false,
+        first(field(line, 1)),
+        given,
         &mut text,
         &mut types,
-        &mut boundaries,
-        &mut char_pos,
-        &mut byte_pos,
-        &mut cell_starts,
-        &mut cell_lengths,
-        &mut tag_bytes,
+        &mut marks,
+        &mut chars,
+        &mut bytes,
+        &mut cells,
+        &mut lens,
+        &mut tags,
+    );
+    served(
+        line,
+        a,
+        &text,
+        &types,
+        &marks,
+        &chars,
+        &bytes,
+        &cells,
+        &lens,
+        &tags,
         &mut out,
         sink,
     )
@@ -318,10 +223,10 @@ fn large(line: &[u8], bytes: &[u8], sink: Sink) -> Sink {
 
 // The answer to a question.
 pub fn ask(line: &[u8], sink: Sink) -> Sink {
-    let mut bytes = [0u8; 5120];
-    let n = repeated(field(line, 2), &mut bytes);
+    let mut given = [0u8; 5120];
+    let n = repeated(field(line, 2), &mut given);
     if (n <= SHORT) & (place(line, 3) <= LITTLE) {
-        return small(line, within(&bytes, 0, n), sink);
+        return small(line, within(&given, 0, n), sink);
     }
-    large(line, within(&bytes, 0, n), sink)
+    large(line, within(&given, 0, n), sink)
 }

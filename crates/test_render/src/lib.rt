@@ -2,6 +2,7 @@
 pub mod lists; // lists.rt: the answers on the list of all tokens
 pub mod sheets; // sheets.rt: the answers on a sheet
 
+use lookups::tag;
 use sentence::Refusal;
 use sheet::Number;
 use sheet::Record;
@@ -14,8 +15,12 @@ use test_casework::within;
 use test_casework::within16;
 use tokens::Next;
 use tokens::Step;
-ghost use Prim.Native.Nat.{_<_};
-ghost use Rattle.sheet.specs.Layout.{Sheet, lent};
+use tokens::next_token;
+use write::write_partial_annotation_text as write_partial;
+use write::write_tokenized_text as write_tokenized;
+
+// The cells of a large table, which are read in the buffers: each look-up checks the whole sheet.
+const LARGE: usize = 8192;
 
 // The most bytes of a written line.
 const ROOM: usize = 131072;
@@ -46,8 +51,7 @@ fn bytes_of(bytes: &[u8], p: Slice, sink: Sink) -> Sink {
 fn slice_told(bytes: &[u8], p: Slice, sink: Sink) -> Sink {
     match p {
         Slice::Refused(f) => refusal(f, sink),
-        Slice::Bytes { start, end } => sink.yes().hex(within(bytes, start, end)),
-        Slice::Absent => sink.yes().put(b'-'),
+        _ => bytes_of(bytes, p, sink.yes()),
     }
 }
 
@@ -67,11 +71,11 @@ fn step_told(s: Step, sink: Sink) -> Sink {
 }
 
 // What a look-up found.
-fn found(f: Found, text: &[u8], tag_bytes: &[u8], sink: Sink) -> Sink {
+fn found(f: Found, text: &[u8], tags: &[u8], sink: Sink) -> Sink {
     match f {
         Found::Number(n) => number(n, sink),
-        Found::Surface(p) => slice_told(text, p, sink),
-        Found::Tag(p) => slice_told(tag_bytes, p, sink),
+        Found::Text(p) => slice_told(text, p, sink),
+        Found::Tag(p) => slice_told(tags, p, sink),
         Found::Step(next) => match next {
             Next::Is(s) => step_told(s, sink),
             Next::Refused(f) => refusal(f, sink),
@@ -79,126 +83,33 @@ fn found(f: Found, text: &[u8], tag_bytes: &[u8], sink: Sink) -> Sink {
     }
 }
 
-// Whether a line is long: for its cells and tokens the sheet is checked once, and not at each of them.
-fn is_long(r: Record) -> bool {
-    (r.b > 512) | (r.columns > 64)
+// A number of a buffer, and 0 where it has none.
+fn at(buffer: &[u16], k: usize) -> u16 {
+    if k < buffer.len() {
+        return buffer[k];
+    }
+    0
 }
 
-// A cell of the padded table.
-fn cell(
-    r: Record,
-    text: &[u8],
-    types: &[u8],
-    boundaries: &[u8],
-    char_pos: &[u16],
-    byte_pos: &[u16],
-    cell_starts: &[u16],
-    cell_lengths: &[u16],
-    tag_bytes: &[u8],
-    i: usize,
-    j: usize,
-) -> Slice
-    requires { ⌜ Sheet r (lent text types boundaries «char_pos» «byte_pos» «cell_starts» «cell_lengths» «tag_bytes») × (i < r .n) × (j < r .columns) ⌝ }
-{
-    if is_long(r) {
-        return lookups::unchecked::tag(
-            r,
-            text,
-            types,
-            boundaries,
-            char_pos,
-            byte_pos,
-            cell_starts,
-            cell_lengths,
-            tag_bytes,
-            i,
-            j,
-        );
+// A cell as the buffers have it.
+fn cell(cells: &[u16], lens: &[u16], k: usize) -> Slice {
+    let start = at(cells, k) as usize;
+    let end = wrapping_add_usize(start, at(lens, k) as usize);
+    if start < end {
+        return Slice::Bytes {
+            start: start,
+            end: end,
+        };
     }
-    lookups::tag(
-        r,
-        text,
-        types,
-        boundaries,
-        char_pos,
-        byte_pos,
-        cell_starts,
-        cell_lengths,
-        tag_bytes,
-        i,
-        j,
-    )
+    Slice::Absent
 }
 
-// A step of the token cursor.
-fn step(
-    r: Record,
-    text: &[u8],
-    types: &[u8],
-    boundaries: &[u8],
-    char_pos: &[u16],
-    byte_pos: &[u16],
-    cell_starts: &[u16],
-    cell_lengths: &[u16],
-    tag_bytes: &[u8],
-    p: usize,
-) -> Next
-    requires { ⌜ Sheet r (lent text types boundaries «char_pos» «byte_pos» «cell_starts» «cell_lengths» «tag_bytes») ⌝ }
-{
-    if is_long(r) {
-        return Next::Is(tokens::unchecked::next_token(boundaries, r.n, p));
+// What stands before a cell of a column.
+fn before(column: usize) -> u8 {
+    if column > 0 {
+        return b',';
     }
-    tokens::next_token(
-        r,
-        text,
-        types,
-        boundaries,
-        char_pos,
-        byte_pos,
-        cell_starts,
-        cell_lengths,
-        tag_bytes,
-        p,
-    )
-}
-
-// A row of the padded table.
-fn row(
-    r: Record,
-    text: &[u8],
-    types: &[u8],
-    boundaries: &[u8],
-    char_pos: &[u16],
-    byte_pos: &[u16],
-    cell_starts: &[u16],
-    cell_lengths: &[u16],
-    tag_bytes: &[u8],
-    i: usize,
-    sink: Sink,
-) -> Sink
-    requires { ⌜ Sheet r (lent text types boundaries «char_pos» «byte_pos» «cell_starts» «cell_lengths» «tag_bytes») × (i < r .n) ⌝ }
-{
-    let mut s = sink;
-    let mut j = 0;
-    while j < r.columns {
-        s = s.joint(j, b',');
-        let found = cell(
-            r,
-            text,
-            types,
-            boundaries,
-            char_pos,
-            byte_pos,
-            cell_starts,
-            cell_lengths,
-            tag_bytes,
-            i,
-            j,
-        );
-        s = bytes_of(tag_bytes, found, s);
-        j += 1;
-    }
-    s
+    b';'
 }
 
 // The padded table.
@@ -206,37 +117,28 @@ fn rows(
     r: Record,
     text: &[u8],
     types: &[u8],
-    boundaries: &[u8],
-    char_pos: &[u16],
-    byte_pos: &[u16],
-    cell_starts: &[u16],
-    cell_lengths: &[u16],
-    tag_bytes: &[u8],
+    marks: &[u8],
+    chars: &[u16],
+    bytes: &[u16],
+    cells: &[u16],
+    lens: &[u16],
+    tags: &[u8],
     sink: Sink,
-) -> Sink
-    requires { ⌜ Sheet r (lent text types boundaries «char_pos» «byte_pos» «cell_starts» «cell_lengths» «tag_bytes») ⌝ }
-{
-    let mut s = sink.put(b' ');
+) -> Sink {
+    let mut s = sink.put(b' ').dot(r.columns);
     if r.columns == 0 {
-        return s.put(b'.');
+        return s;
     }
-    let mut i = 0;
-    while i < r.n {
-        s = s.joint(i, b';');
-        s = row(
-            r,
-            text,
-            types,
-            boundaries,
-            char_pos,
-            byte_pos,
-            cell_starts,
-            cell_lengths,
-            tag_bytes,
-            i,
-            s,
-        );
-        i += 1;
+    let mut k = 0;
+    while k < r.cells {
+        let i = k / r.columns;
+        let j = k % r.columns;
+        let mut found = cell(cells, lens, k);
+        if r.cells < LARGE {
+            found = tag(r, text, types, marks, chars, bytes, cells, lens, tags, i, j);
+        }
+        s = bytes_of(tags, found, s.joint(k, before(j)));
+        k += 1;
     }
     s
 }
@@ -246,36 +148,22 @@ fn tokens_of(
     r: Record,
     text: &[u8],
     types: &[u8],
-    boundaries: &[u8],
-    char_pos: &[u16],
-    byte_pos: &[u16],
-    cell_starts: &[u16],
-    cell_lengths: &[u16],
-    tag_bytes: &[u8],
+    marks: &[u8],
+    chars: &[u16],
+    bytes: &[u16],
+    cells: &[u16],
+    lens: &[u16],
+    tags: &[u8],
     sink: Sink,
-) -> Sink
-    requires { ⌜ Sheet r (lent text types boundaries «char_pos» «byte_pos» «cell_starts» «cell_lengths» «tag_bytes») ⌝ }
-{
+) -> Sink {
     let mut s = sink.put(b' ');
     let mut p = 0;
     let mut i = 0;
     while i < r.n {
-        match step(
-            r,
-            text,
-            types,
-            boundaries,
-            char_pos,
-            byte_pos,
-            cell_starts,
-            cell_lengths,
-            tag_bytes,
-            p,
-        ) {
+        match next_token(r, text, types, marks, chars, bytes, cells, lens, tags, p) {
             Next::Is(step) => match step {
                 Step::Serves(t) => {
-                    s = s.joint(i, b',');
-                    s = token(t.start, t.end, s);
+                    s = token(t.start, t.end, s.joint(i, b','));
                     p = t.end as usize;
                     i += 1;
                 }
@@ -291,46 +179,24 @@ fn tokens_of(
     s
 }
 
-// Writes the sentence into a room.
+// Writes the sentence into a room, by the writer of a letter.
 fn write_line(
     writer: u8,
     r: Record,
     text: &[u8],
     types: &[u8],
-    boundaries: &[u8],
-    char_pos: &[u16],
-    byte_pos: &[u16],
-    cell_starts: &[u16],
-    cell_lengths: &[u16],
-    tag_bytes: &[u8],
+    marks: &[u8],
+    chars: &[u16],
+    bytes: &[u16],
+    cells: &[u16],
+    lens: &[u16],
+    tags: &[u8],
     room: &mut [u8],
 ) -> Number {
-    if writer == b'T' {
-        return write::write_tokenized_text(
-            r,
-            text,
-            types,
-            boundaries,
-            char_pos,
-            byte_pos,
-            cell_starts,
-            cell_lengths,
-            tag_bytes,
-            room,
-        );
+    match writer {
+        b'T' => write_tokenized(r, text, types, marks, chars, bytes, cells, lens, tags, room),
+        _ => write_partial(r, text, types, marks, chars, bytes, cells, lens, tags, room),
     }
-    write::write_partial_annotation_text(
-        r,
-        text,
-        types,
-        boundaries,
-        char_pos,
-        byte_pos,
-        cell_starts,
-        cell_lengths,
-        tag_bytes,
-        room,
-    )
 }
 
 // A written line, which stands in its room.
@@ -341,183 +207,38 @@ fn written(n: Number, room: &[u8], sink: Sink) -> Sink {
     }
 }
 
-// The line of a writer.
-fn line_told(
-    writer: u8,
+// Both written lines.
+fn lines_told(
     r: Record,
     text: &[u8],
     types: &[u8],
-    boundaries: &[u8],
-    char_pos: &[u16],
-    byte_pos: &[u16],
-    cell_starts: &[u16],
-    cell_lengths: &[u16],
-    tag_bytes: &[u8],
+    marks: &[u8],
+    chars: &[u16],
+    bytes: &[u16],
+    cells: &[u16],
+    lens: &[u16],
+    tags: &[u8],
+    room: &mut [u8],
     sink: Sink,
 ) -> Sink {
-    let mut room = [0u8; ROOM];
-    let n = write_line(
-        writer,
-        r,
-        text,
-        types,
-        boundaries,
-        char_pos,
-        byte_pos,
-        cell_starts,
-        cell_lengths,
-        tag_bytes,
-        &mut room,
-    );
-    written(n, &room, sink)
+    let n = write_tokenized(r, text, types, marks, chars, bytes, cells, lens, tags, room);
+    let told = written(n, room, sink);
+    let m = write_partial(r, text, types, marks, chars, bytes, cells, lens, tags, room);
+    written(m, room, told)
 }
 
 // Text, types and boundaries.
-fn characters(r: Record, text: &[u8], types: &[u8], boundaries: &[u8], sink: Sink) -> Sink {
+fn characters(r: Record, text: &[u8], types: &[u8], marks: &[u8], sink: Sink) -> Sink {
     let s1 = sink.hex(within(text, 0, r.b));
     let s2 = s1.digits_field(within(types, 0, r.n));
-    s2.digits_field(within(boundaries, 0, wrapping_sub_usize(r.n, 1)))
+    s2.digits_field(within(marks, 0, wrapping_sub_usize(r.n, 1)))
 }
 
 // Both position maps, and the columns.
-fn positions(r: Record, char_pos: &[u16], byte_pos: &[u16], sink: Sink) -> Sink {
-    let s1 = sink.numbers_field(within16(char_pos, 0, wrapping_add_usize(r.n, 1)));
-    let s2 = s1.numbers_field(within16(byte_pos, 0, wrapping_add_usize(r.b, 1)));
+fn positions(r: Record, chars: &[u16], bytes: &[u16], sink: Sink) -> Sink {
+    let s1 = sink.numbers_field(within16(chars, 0, wrapping_add_usize(r.n, 1)));
+    let s2 = s1.numbers_field(within16(bytes, 0, wrapping_add_usize(r.b, 1)));
     s2.number_field(r.columns as u64)
-}
-
-// The padded table and the tokens.
-fn labels(
-    r: Record,
-    text: &[u8],
-    types: &[u8],
-    boundaries: &[u8],
-    char_pos: &[u16],
-    byte_pos: &[u16],
-    cell_starts: &[u16],
-    cell_lengths: &[u16],
-    tag_bytes: &[u8],
-    sink: Sink,
-) -> Sink
-    requires { ⌜ Sheet r (lent text types boundaries «char_pos» «byte_pos» «cell_starts» «cell_lengths» «tag_bytes») ⌝ }
-{
-    let listed = rows(
-        r,
-        text,
-        types,
-        boundaries,
-        char_pos,
-        byte_pos,
-        cell_starts,
-        cell_lengths,
-        tag_bytes,
-        sink,
-    );
-    tokens_of(
-        r,
-        text,
-        types,
-        boundaries,
-        char_pos,
-        byte_pos,
-        cell_starts,
-        cell_lengths,
-        tag_bytes,
-        listed,
-    )
-}
-
-// The same of what should be a sheet.
-fn labels_checked(
-    r: Record,
-    text: &[u8],
-    types: &[u8],
-    boundaries: &[u8],
-    char_pos: &[u16],
-    byte_pos: &[u16],
-    cell_starts: &[u16],
-    cell_lengths: &[u16],
-    tag_bytes: &[u8],
-    sink: Sink,
-) -> Sink {
-    if !sheet::check(
-        r,
-        text,
-        types,
-        boundaries,
-        char_pos,
-        byte_pos,
-        cell_starts,
-        cell_lengths,
-        tag_bytes,
-    ) {
-        return sink.put(b' ').refused(13, 0);
-    }
-    labels(
-        r,
-        text,
-        types,
-        boundaries,
-        char_pos,
-        byte_pos,
-        cell_starts,
-        cell_lengths,
-        tag_bytes,
-        sink,
-    )
-}
-
-// The padded table, the tokens and both written lines.
-fn ended(
-    r: Record,
-    text: &[u8],
-    types: &[u8],
-    boundaries: &[u8],
-    char_pos: &[u16],
-    byte_pos: &[u16],
-    cell_starts: &[u16],
-    cell_lengths: &[u16],
-    tag_bytes: &[u8],
-    sink: Sink,
-) -> Sink {
-    let labelled = labels_checked(
-        r,
-        text,
-        types,
-        boundaries,
-        char_pos,
-        byte_pos,
-        cell_starts,
-        cell_lengths,
-        tag_bytes,
-        sink,
-    );
-    let told = line_told(
-        b'T',
-        r,
-        text,
-        types,
-        boundaries,
-        char_pos,
-        byte_pos,
-        cell_starts,
-        cell_lengths,
-        tag_bytes,
-        labelled,
-    );
-    line_told(
-        b'P',
-        r,
-        text,
-        types,
-        boundaries,
-        char_pos,
-        byte_pos,
-        cell_starts,
-        cell_lengths,
-        tag_bytes,
-        told,
-    )
 }
 
 // The ten fields.
@@ -525,26 +246,30 @@ fn fields(
     r: Record,
     text: &[u8],
     types: &[u8],
-    boundaries: &[u8],
-    char_pos: &[u16],
-    byte_pos: &[u16],
-    cell_starts: &[u16],
-    cell_lengths: &[u16],
-    tag_bytes: &[u8],
+    marks: &[u8],
+    chars: &[u16],
+    bytes: &[u16],
+    cells: &[u16],
+    lens: &[u16],
+    tags: &[u8],
     sink: Sink,
 ) -> Sink {
-    let begun = characters(r, text, types, boundaries, sink);
-    let placed = positions(r, char_pos, byte_pos, begun);
-    ended(
+    let mut room = [0u8; ROOM];
+    let begun = characters(r, text, types, marks, sink);
+    let s1 = positions(r, chars, bytes, begun);
+    let s2 = rows(r, text, types, marks, chars, bytes, cells, lens, tags, s1);
+    let s3 = tokens_of(r, text, types, marks, chars, bytes, cells, lens, tags, s2);
+    lines_told(
         r,
         text,
         types,
-        boundaries,
-        char_pos,
-        byte_pos,
-        cell_starts,
-        cell_lengths,
-        tag_bytes,
-        placed,
+        marks,
+        chars,
+        bytes,
+        cells,
+        lens,
+        tags,
+        &mut room,
+        s3,
     )
 }

@@ -1,8 +1,10 @@
 // Questions on the list of all tokens: A F LINE.
 use sheet::Number;
 use sheet::Record;
-use test_calls::at_most;
 use test_casework::Sink;
+use test_casework::at_most;
+use test_listing::unchecked::answered;
+use test_listing::unchecked::filled;
 use tokens::Token;
 
 // A record of a list: its token, or a dot where none was stored.
@@ -13,10 +15,10 @@ fn record(t: Token, sink: Sink) -> Sink {
     sink.put(b'.')
 }
 
-// The first so many records of a list, and one more.
-fn records(list: [Token; 64], n: usize, sink: Sink) -> Sink {
+// What a list answered, and the first so many records that it holds after the call, and one more.
+fn told(a: Number, list: [Token; 64], n: usize, sink: Sink) -> Sink {
     let end = at_most(n, 63);
-    let mut s = sink;
+    let mut s = crate::number(a, sink).put(b' ');
     let mut i = 0;
     while i <= end {
         s = s.joint(i, b',');
@@ -25,49 +27,6 @@ fn records(list: [Token; 64], n: usize, sink: Sink) -> Sink {
         i += 1;
     }
     s
-}
-
-// A list with room for so many records: its answer, and what it holds after the call.
-fn list_told(
-    r: Record,
-    text: &[u8],
-    types: &[u8],
-    boundaries: &[u8],
-    char_pos: &[u16],
-    byte_pos: &[u16],
-    cell_starts: &[u16],
-    cell_lengths: &[u16],
-    tag_bytes: &[u8],
-    room: usize,
-    count: usize,
-    sink: Sink,
-) -> Sink {
-    let n = at_most(room, 64);
-    let a = test_listing::unchecked::answered(
-        r,
-        text,
-        types,
-        boundaries,
-        char_pos,
-        byte_pos,
-        cell_starts,
-        cell_lengths,
-        tag_bytes,
-        n,
-    );
-    let list = test_listing::unchecked::filled(
-        r,
-        text,
-        types,
-        boundaries,
-        char_pos,
-        byte_pos,
-        cell_starts,
-        cell_lengths,
-        tag_bytes,
-        n,
-    );
-    records(list, count, crate::number(a, sink).put(b' '))
 }
 
 // How many records a list takes: those that it has, or those that it says that it needs.
@@ -91,66 +50,35 @@ pub fn ask(
     r: Record,
     text: &[u8],
     types: &[u8],
-    boundaries: &[u8],
-    char_pos: &[u16],
-    byte_pos: &[u16],
-    cell_starts: &[u16],
-    cell_lengths: &[u16],
-    tag_bytes: &[u8],
+    marks: &[u8],
+    chars: &[u16],
+    bytes: &[u16],
+    cells: &[u16],
+    lens: &[u16],
+    tags: &[u8],
     sink: Sink,
 ) -> Sink {
-    let count = taken(test_listing::unchecked::answered(
-        r,
-        text,
-        types,
-        boundaries,
-        char_pos,
-        byte_pos,
-        cell_starts,
-        cell_lengths,
-        tag_bytes,
-        64,
-    ));
-    let ample = list_told(
-        r,
-        text,
-        types,
-        boundaries,
-        char_pos,
-        byte_pos,
-        cell_starts,
-        cell_lengths,
-        tag_bytes,
-        64,
-        count,
+    let ample = answered(r, text, types, marks, chars, bytes, cells, lens, tags, 64);
+    let n = taken(ample);
+    let few = at_most(less(n), 64);
+    let short = answered(r, text, types, marks, chars, bytes, cells, lens, tags, few);
+    let none = answered(r, text, types, marks, chars, bytes, cells, lens, tags, 0);
+    let s1 = told(
+        ample,
+        filled(r, text, types, marks, chars, bytes, cells, lens, tags, 64),
+        n,
         sink,
     );
-    let short = list_told(
-        r,
-        text,
-        types,
-        boundaries,
-        char_pos,
-        byte_pos,
-        cell_starts,
-        cell_lengths,
-        tag_bytes,
-        less(count),
-        count,
-        ample.put(b' '),
+    let s2 = told(
+        short,
+        filled(r, text, types, marks, chars, bytes, cells, lens, tags, few),
+        n,
+        s1.put(b' '),
     );
-    list_told(
-        r,
-        text,
-        types,
-        boundaries,
-        char_pos,
-        byte_pos,
-        cell_starts,
-        cell_lengths,
-        tag_bytes,
-        0,
-        count,
-        short.put(b' '),
+    told(
+        none,
+        filled(r, text, types, marks, chars, bytes, cells, lens, tags, 0),
+        n,
+        s2.put(b' '),
     )
 }

@@ -6,22 +6,28 @@ use Rattle.test_hiding.proofs.run.Statement.{statement}
 use Rattle.test_hiding.proofs.run.Tie as tie
 
 abbrev Inv-loop : tie.InvT-loop
-Inv-loop line₀ held₀ turns₀ line held turns = length line ≡ length line₀
+Inv-loop line₀ turns₀ line turns = length line ≡ length line₀
 
 abbrev μ-loop : tie.MeasureT-loop
-μ-loop line₀ held₀ turns₀ line held turns = turns
+μ-loop line₀ turns₀ line turns = turns
 
 loop-holds : tie.Need-loop-holds Inv-loop μ-loop
 loop-holds c = search needs
 
-take-piece-requires : tie.Need-take-piece-requires Inv-loop μ-loop
-take-piece-requires c κs = search needs
+next-line-requires : tie.Need-next-line-requires Inv-loop μ-loop
+next-line-requires c κs = search needs
 
 same-length : tie.Need-same-length Inv-loop μ-loop
 same-length c = search needs
 
 returns : tie.Need-returns Inv-loop μ-loop
 returns c = search needs
+
+within-requires : tie.Need-within-requires Inv-loop μ-loop
+within-requires c κs = search needs
+
+show-line-requires : tie.Need-show-line-requires Inv-loop μ-loop
+show-line-requires c κs = search needs
 
 sub-turns : tie.Need-sub-turns Inv-loop μ-loop
 sub-turns c = search needs
@@ -45,9 +51,11 @@ run-spec =
     Inv-loop
     μ-loop
     loop-holds
-    take-piece-requires
+    next-line-requires
     same-length
     returns
+    within-requires
+    show-line-requires
     sub-turns
     loop-less
     loop-again

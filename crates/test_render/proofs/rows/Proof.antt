@@ -5,16 +5,16 @@ use Rattle.test_render.proofs.rows.Statement.{statement}
 use Rattle.test_render.proofs.rows.Tie as tie
 
 abbrev Inv-loop : tie.InvT-loop
-Inv-loop r text types boundaries char-pos byte-pos cell-starts cell-lengths tag-bytes s₀ i₀ s i = Unit {0}
+Inv-loop r text types marks chars bytes cells lens tags s₀ k₀ s k = Unit {0}
 
 abbrev μ-loop : tie.MeasureT-loop
-μ-loop r text types boundaries char-pos byte-pos cell-starts cell-lengths tag-bytes s₀ i₀ s i = r .n - i
+μ-loop r text types marks chars bytes cells lens tags s₀ k₀ s k = r .cells - k
 
 put-requires : tie.Need-put-requires Inv-loop μ-loop
 put-requires c κs = search needs
 
-put-requires-2 : tie.Need-put-requires-2 Inv-loop μ-loop
-put-requires-2 c κs = search needs
+dot-requires : tie.Need-dot-requires Inv-loop μ-loop
+dot-requires c κs = search needs
 
 returns : tie.Need-returns Inv-loop μ-loop
 returns c = search needs
@@ -22,14 +22,29 @@ returns c = search needs
 loop-holds : tie.Need-loop-holds Inv-loop μ-loop
 loop-holds c = search needs
 
+div-i : tie.Need-div-i Inv-loop μ-loop
+div-i c = search needs
+
+rem-j : tie.Need-rem-j Inv-loop μ-loop
+rem-j c = search needs
+
+cell-requires : tie.Need-cell-requires Inv-loop μ-loop
+cell-requires c κs = search needs
+
+tag-requires : tie.Need-tag-requires Inv-loop μ-loop
+tag-requires c κs = search needs
+
+before-requires : tie.Need-before-requires Inv-loop μ-loop
+before-requires c κs = search needs
+
 joint-requires : tie.Need-joint-requires Inv-loop μ-loop
 joint-requires c κs = search needs
 
-row-requires : tie.Need-row-requires Inv-loop μ-loop
-row-requires c κs = search needs
+bytes-of-requires : tie.Need-bytes-of-requires Inv-loop μ-loop
+bytes-of-requires c κs = search needs
 
-add-i : tie.Need-add-i Inv-loop μ-loop
-add-i c = search needs
+add-k : tie.Need-add-k Inv-loop μ-loop
+add-k c = search needs
 
 loop-less : tie.Need-loop-less Inv-loop μ-loop
 loop-less c = search needs
@@ -47,12 +62,17 @@ rows-spec =
     Inv-loop
     μ-loop
     put-requires
-    put-requires-2
+    dot-requires
     returns
     loop-holds
+    div-i
+    rem-j
+    cell-requires
+    tag-requires
+    before-requires
     joint-requires
-    row-requires
-    add-i
+    bytes-of-requires
+    add-k
     loop-less
     loop-again
     returns-2)

@@ -5,10 +5,10 @@ use Rattle.test_render.proofs.tokens_of.Statement.{statement}
 use Rattle.test_render.proofs.tokens_of.Tie as tie
 
 abbrev Inv-loop : tie.InvT-loop
-Inv-loop r text types boundaries char-pos byte-pos cell-starts cell-lengths tag-bytes s₀ p₀ i₀ s p i = Unit {0}
+Inv-loop r text types marks chars bytes cells lens tags s₀ p₀ i₀ s p i = Unit {0}
 
 abbrev μ-loop : tie.MeasureT-loop
-μ-loop r text types boundaries char-pos byte-pos cell-starts cell-lengths tag-bytes s₀ p₀ i₀ s p i = r .n - i
+μ-loop r text types marks chars bytes cells lens tags s₀ p₀ i₀ s p i = r .n - i
 
 put-requires : tie.Need-put-requires Inv-loop μ-loop
 put-requires c κs = search needs
@@ -16,8 +16,8 @@ put-requires c κs = search needs
 loop-holds : tie.Need-loop-holds Inv-loop μ-loop
 loop-holds c = search needs
 
-step-requires : tie.Need-step-requires Inv-loop μ-loop
-step-requires c κs = search needs
+next-token-requires : tie.Need-next-token-requires Inv-loop μ-loop
+next-token-requires c κs = search needs
 
 enum-known-step : tie.Need-enum-known-step Inv-loop μ-loop
 enum-known-step c = search needs
@@ -72,7 +72,7 @@ tokens-of-spec =
     μ-loop
     put-requires
     loop-holds
-    step-requires
+    next-token-requires
     enum-known-step
     enum-known-step-2
     joint-requires

@@ -1,24 +1,24 @@
--- `test_casework::sink::Sink::text` meets its contract.
+-- `test_casework::sink::Sink::each` meets its contract.
 use Prim.Native.Nat.{_-_, _≤_}
 use borrow.Author.Needs.{needs}
 use lib.ListN.{length}
-use Rattle.test_casework.proofs.sink.Sink.text.Statement.{statement}
-use Rattle.test_casework.proofs.sink.Sink.text.Tie as tie
+use Rattle.test_casework.proofs.sink.Sink.each.Statement.{statement}
+use Rattle.test_casework.proofs.sink.Sink.each.Tie as tie
 
 abbrev Inv-loop : tie.InvT-loop
-Inv-loop s sink₀ i₀ sink i = i ≤ length s
+Inv-loop how s sink₀ i₀ sink i = i ≤ length s
 
 abbrev μ-loop : tie.MeasureT-loop
-μ-loop s sink₀ i₀ sink i = length s - i
+μ-loop how s sink₀ i₀ sink i = length s - i
 
 loop-holds : tie.Need-loop-holds Inv-loop μ-loop
 loop-holds c = search needs
 
-shared-slice-read-put : tie.Need-shared-slice-read-put Inv-loop μ-loop
-shared-slice-read-put c = search needs
+shared-slice-read-shown : tie.Need-shared-slice-read-shown Inv-loop μ-loop
+shared-slice-read-shown c = search needs
 
-put-requires : tie.Need-put-requires Inv-loop μ-loop
-put-requires c κs = search needs
+shown-requires : tie.Need-shown-requires Inv-loop μ-loop
+shown-requires c κs = search needs
 
 add-i : tie.Need-add-i Inv-loop μ-loop
 add-i c = search needs
@@ -32,15 +32,15 @@ loop-again c = search needs
 returns : tie.Need-returns Inv-loop μ-loop
 returns c = search needs
 
-pub text-spec : {M : Type 1} → statement M
-text-spec =
+pub each-spec : {M : Type 1} → statement M
+each-spec =
     tie.close
     (tie.spec
     Inv-loop
     μ-loop
     loop-holds
-    shared-slice-read-put
-    put-requires
+    shared-slice-read-shown
+    shown-requires
     add-i
     loop-less
     loop-again

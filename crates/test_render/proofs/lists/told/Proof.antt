@@ -1,8 +1,8 @@
--- `test_render::lists::records` meets its contract.
+-- `test_render::lists::told` meets its contract.
 use Prim.Native.Nat.{_+_, _-_, _≤_}
 use borrow.Author.Needs.{needs}
-use Rattle.test_render.proofs.lists.records.Statement.{statement}
-use Rattle.test_render.proofs.lists.records.Tie as tie
+use Rattle.test_render.proofs.lists.told.Statement.{statement}
+use Rattle.test_render.proofs.lists.told.Tie as tie
 
 abbrev Inv-loop : tie.InvT-loop
 Inv-loop n list end s₀ i₀ s i = (end ≤ 63) × (i ≤ end + 1)
@@ -12,6 +12,12 @@ abbrev μ-loop : tie.MeasureT-loop
 
 at-most-requires : tie.Need-at-most-requires Inv-loop μ-loop
 at-most-requires c κs = search needs
+
+number-requires : tie.Need-number-requires Inv-loop μ-loop
+number-requires c κs = search needs
+
+put-requires : tie.Need-put-requires Inv-loop μ-loop
+put-requires c κs = search needs
 
 loop-holds : tie.Need-loop-holds Inv-loop μ-loop
 loop-holds c = search needs
@@ -40,13 +46,15 @@ loop-again c = search needs
 returns : tie.Need-returns Inv-loop μ-loop
 returns c = search needs
 
-pub records-spec : {M : Type 1} → statement M
-records-spec =
+pub told-spec : {M : Type 1} → statement M
+told-spec =
     tie.close
     (tie.spec
     Inv-loop
     μ-loop
     at-most-requires
+    number-requires
+    put-requires
     loop-holds
     joint-requires
     mul-t
