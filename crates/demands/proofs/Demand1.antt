@@ -35,7 +35,7 @@ use Rattle.sheet.specs.declared.Number.{Number}
 use Rattle.sheet.specs.declared.Number.the-variants as number
 use Rattle.sheet.specs.declared.Slice.{Slice}
 use Rattle.sheet.specs.declared.Slice.the-variants as slice
-use Rattle.sheet.specs.Layout.{Buffers, buffers, recordOf, roomFor, laid, spell}
+use Rattle.sheet.specs.Layout.{Buffers, recordOf, roomFor, laid, spell}
 use Rattle.sheet.specs.Check.{isSheet}
 use Rattle.sheet.proofs.Exact.{is-sheet, holds-is}
 use Rattle.lookups.specs.Answers.{charToStrPos, strToCharPos, boundaryAt, tagSlice, tagAt, surfaceAt}
@@ -146,12 +146,8 @@ lays : {s : Sentence} {d e : Buffers} (qs : List Allowed) (cs : List Check) (q :
     → Lays (verdict answer.Refused cs (answer.Sentence q)) s d r e → Settled qs (ofAnswer r) d e
 unfolding ofAnswer
 lays qs cs q (answer.Sentence z) h w = tt
-lays {s} {d} {e} qs cs q (answer.Refused x) h w =
-    let same : whole e ≡ whole d = cc in
-    (subst (λ (a : Answer). Answers qs (ofAnswer a)) (sym (w .answer-is)) (answers ofAnswer answer.Refused tells-answer qs cs (answer.Sentence q) (serves-answer q) h), same)
-  where
-    whole : Buffers → Buffers
-    whole x = buffers (x .text-buf) (x .types-buf) (x .boundaries-buf) (x .char-pos-buf) (x .byte-pos-buf) (x .cell-starts-buf) (x .cell-lengths-buf) (x .tag-bytes-buf)
+lays qs cs q (answer.Refused x) h w =
+    (subst (λ (a : Answer). Answers qs (ofAnswer a)) (sym (w .answer-is)) (answers ofAnswer answer.Refused tells-answer qs cs (answer.Sentence q) (serves-answer q) h), same-is (w .leaves))
 
 -- ---- what a line is refused by
 -- a number that is allowed where a character stands, of which one of a single byte is that byte
