@@ -7,7 +7,6 @@ use test_casework::at_most;
 use test_casework::field;
 use test_casework::first;
 use test_casework::listed;
-use test_casework::repeated;
 use test_casework::within;
 use test_casework::within16;
 ghost use Prim.Native.Nat.{_≤_};
@@ -47,8 +46,6 @@ fn room(line: &[u8], k: usize) -> usize
 
 // M F LINE ROOMS: a reader; U F LINE ROOMS: an update. The answer, and all that is lent; every cell holds a mark before the call.
 pub fn ask(line: &[u8], sink: Sink) -> Sink {
-    let mut given = [0u8; 5120];
-    let n = repeated(field(line, 2), &mut given);
     let mut text = [165u8; MOST];
     let mut types = [165u8; MOST];
     let mut marks = [165u8; MOST];
@@ -68,7 +65,7 @@ pub fn ask(line: &[u8], sink: Sink) -> Sink {
     let a = ask_into(
         first(line) == b'U',
         first(field(line, 1)),
-        within(&given, 0, n),
+        field(line, 2),
         &mut text[0..n0],
         &mut types[0..n1],
         &mut marks[0..n2],

@@ -10,8 +10,6 @@ use test_casework::byte;
 use test_casework::field;
 use test_casework::first;
 use test_casework::place;
-use test_casework::repeated;
-use test_casework::within;
 use test_render::sheets::told;
 
 // The cells that a long line has room for.
@@ -101,15 +99,13 @@ fn form_of(line: &[u8]) -> u8 {
     capital(first(field(line, form_at(first(line)))))
 }
 
-// Puts the line of a question, and answers how long it is.
-fn line_of(line: &[u8], bytes: &mut [u8]) -> usize {
-    let at = wrapping_add_usize(form_at(first(line)), 1);
-    repeated(field(line, at), bytes)
+// The field that spells the line.
+fn line_of<'a>(line: &'a [u8]) -> &'a [u8] {
+    field(line, wrapping_add_usize(form_at(first(line)), 1))
 }
 
 // A line, by way of a sheet that has room for it, but for many cells.
 fn short(line: &[u8], sink: Sink) -> Sink {
-    let mut given = [0u8; 5120];
     let mut text = [0u8; MOST];
     let mut types = [0u8; MOST];
     let mut marks = [0u8; MOST];
@@ -118,11 +114,10 @@ fn short(line: &[u8], sink: Sink) -> Sink {
     let mut cells = [0u16; MOST];
     let mut lens = [0u16; MOST];
     let mut tags = [0u8; MOST];
-    let n = line_of(line, &mut given);
     let a = ask_into(
         false,
         form_of(line),
-        within(&given, 0, n),
+        line_of(line),
         &mut text,
         &mut types,
         &mut marks,
@@ -149,7 +144,6 @@ fn short(line: &[u8], sink: Sink) -> Sink {
 
 // A long line, by way of a sheet with more cells.
 fn long(line: &[u8], sink: Sink) -> Sink {
-    let mut given = [0u8; 5120];
     let mut text = [0u8; MOST];
     let mut types = [0u8; MOST];
     let mut marks = [0u8; MOST];
@@ -158,11 +152,10 @@ fn long(line: &[u8], sink: Sink) -> Sink {
     let mut cells = [0u16; CELLS];
     let mut lens = [0u16; CELLS];
     let mut tags = [0u8; MOST];
-    let n = line_of(line, &mut given);
     let a = ask_into(
         false,
         form_of(line),
-        within(&given, 0, n),
+        line_of(line),
         &mut text,
         &mut types,
         &mut marks,

@@ -141,8 +141,8 @@ fn served(
     }
 }
 
-// The answer to a question whose line is given, by way of the small buffers, which are cleared sooner.
-fn small(line: &[u8], given: &[u8], sink: Sink) -> Sink {
+// The answer to a question by way of the small buffers, which are cleared sooner.
+fn small(line: &[u8], sink: Sink) -> Sink {
     let mut text = [0u8; SMALL];
     let mut types = [0u8; SMALL];
     let mut marks = [0u8; SMALL];
@@ -155,7 +155,7 @@ fn small(line: &[u8], given: &[u8], sink: Sink) -> Sink {
     let a = ask_into(
         false,
         first(field(line, 1)),
-        given,
+        field(line, 2),
         &mut text,
         &mut types,
         &mut marks,
@@ -182,7 +182,7 @@ fn small(line: &[u8], given: &[u8], sink: Sink) -> Sink {
 }
 
 // The same by way of the large buffers.
-fn large(line: &[u8], given: &[u8], sink: Sink) -> Sink {
+fn large(line: &[u8], sink: Sink) -> Sink {
     let mut text = [0u8; LARGE];
     let mut types = [0u8; LARGE];
     let mut marks = [0u8; LARGE];
@@ -195,7 +195,7 @@ fn large(line: &[u8], given: &[u8], sink: Sink) -> Sink {
     let a = ask_into(
         false,
         first(field(line, 1)),
-        given,
+        field(line, 2),
         &mut text,
         &mut types,
         &mut marks,
@@ -224,9 +224,8 @@ fn large(line: &[u8], given: &[u8], sink: Sink) -> Sink {
 // The answer to a question.
 pub fn ask(line: &[u8], sink: Sink) -> Sink {
     let mut given = [0u8; 5120];
-    let n = repeated(field(line, 2), &mut given);
-    if (n <= SHORT) & (place(line, 3) <= LITTLE) {
-        return small(line, within(&given, 0, n), sink);
+    if (repeated(field(line, 2), &mut given) <= SHORT) & (place(line, 3) <= LITTLE) {
+        return small(line, sink);
     }
-    large(line, within(&given, 0, n), sink)
+    large(line, sink)
 }

@@ -3,7 +3,7 @@ use sheet::Number;
 use sheet::Record;
 use test_casework::Sink;
 use test_casework::at_most;
-use test_listing::unchecked::answered;
+use test_listing::unchecked::Outcome;
 use test_listing::unchecked::filled;
 use tokens::Token;
 
@@ -16,7 +16,9 @@ fn record(t: Token, sink: Sink) -> Sink {
 }
 
 // What a list answered, and the first so many records that it holds after the call, and one more.
-fn told(a: Number, list: [Token; 64], n: usize, sink: Sink) -> Sink {
+fn told(o: Outcome, n: usize, sink: Sink) -> Sink {
+    let a = o.answer;
+    let list = o.list;
     let end = at_most(n, 63);
     let mut s = crate::number(a, sink).put(b' ');
     let mut i = 0;
@@ -58,27 +60,13 @@ pub fn ask(
     tags: &[u8],
     sink: Sink,
 ) -> Sink {
-    let ample = answered(r, text, types, marks, chars, bytes, cells, lens, tags, 64);
-    let n = taken(ample);
+    let ample = filled(r, text, types, marks, chars, bytes, cells, lens, tags, 64);
+    let a = ample.answer;
+    let n = taken(a);
     let few = at_most(less(n), 64);
-    let short = answered(r, text, types, marks, chars, bytes, cells, lens, tags, few);
-    let none = answered(r, text, types, marks, chars, bytes, cells, lens, tags, 0);
-    let s1 = told(
-        ample,
-        filled(r, text, types, marks, chars, bytes, cells, lens, tags, 64),
-        n,
-        sink,
-    );
-    let s2 = told(
-        short,
-        filled(r, text, types, marks, chars, bytes, cells, lens, tags, few),
-        n,
-        s1.put(b' '),
-    );
-    told(
-        none,
-        filled(r, text, types, marks, chars, bytes, cells, lens, tags, 0),
-        n,
-        s2.put(b' '),
-    )
+    let short = filled(r, text, types, marks, chars, bytes, cells, lens, tags, few);
+    let none = filled(r, text, types, marks, chars, bytes, cells, lens, tags, 0);
+    let s1 = told(ample, n, sink);
+    let s2 = told(short, n, s1.put(b' '));
+    told(none, n, s2.put(b' '))
 }

@@ -40,7 +40,7 @@ use denote.Slice.{sliceVal, MutSlice, ShrSlice, shr-slice-copy, shr-slice-tells,
 use denote.Lend.{Held, lends-slice, slice-back}
 use denote.Index.{row, whole-in, whole-out}
 use denote.Signature.{plain}
-use denote.Steps.{owned, peeks}
+use denote.Steps.{owned, peeks, heard}
 use denote.Struct.Steps.{spelt}
 use denote.Struct.Laws as LL
 use denote.Struct.Struct.{twices}
@@ -53,6 +53,7 @@ use denote.Triple.Spec.{Meets, tripleOf}
 use denote.Triple.Table.{entered, cited}
 use denote.Triple.Walked.{says, needs, Stays, stay-none, stay-none-slice, walkOf, AllGo, goes-none, goes-none-slice, Walks, ends-at, walked, walk-meets}
 use denote.Exit.{yes}
+use borrow.Struct.Items.{is-same}
 use borrow.Table.Elements.{at, cut-app, join-app, same-len, length-take-le}
 use Rattle.sheet.specs.declared.Record.{Record}
 use Rattle.sheet.specs.declared.Number.{Number}
@@ -62,7 +63,7 @@ use Rattle.sheet.proofs.Record.Laws as R′
 use Rattle.sheet.proofs.Number as N
 use Rattle.sheet.proofs.Number.Laws as N′
 use Rattle.tokens.specs.declared.Token.{Token}
-use Rattle.tokens.specs.Steps.{Listed}
+use Rattle.tokens.specs.Steps.{Listed, countOf}
 use Rattle.tokens.proofs.Token as Tok
 use Rattle.tokens.proofs.Token.Laws as Tok′
 use Rattle.tokens.proofs.token_list as tl
@@ -70,6 +71,9 @@ use Rattle.tokens.proofs.token_list.Symbol as tl-def
 use Rattle.tokens.proofs.token_list.Symbol.{name as #tokens·token-list}
 use Rattle.tokens.proofs.token_list.Met as tl-thm
 use Rattle.tokens.proofs.Bundles.{lifetimes, parts, binds, parts-lifetimes, binds-lifetimes}
+use Rattle.test_listing.specs.declared.unchecked.Outcome.{Outcome}
+use Rattle.test_listing.proofs.unchecked.Outcome as O
+use Rattle.test_listing.proofs.unchecked.Outcome.Laws as O′
 use Rattle.test_listing.proofs.unchecked.filled.Key.{name as #test-listing·unchecked·filled}
 use Rattle.test_listing.proofs.unchecked.filled as f
 use Rattle.test_listing.proofs.unchecked.filled.Statement as stated
@@ -210,11 +214,11 @@ module _ {M : Type 1} (𝓤 : URA M) (H : Heap 𝓤) (A : Atoms 𝓤) (W : Given
   abbrev Post : Val → SProp 𝓤
   Post = walkOf 𝓤 H A f.ended stayed (f.clauses 𝓤 H A at-mem run) .post ((κs, qs, tt, args, vals), tt)
 
-  exits : (zs : List Token) (v : Val) → length zs ≡ 64 → ent 𝓤 (⋆ 𝓤 H A (‵ (R64 .own zs (v ∷ [])) ∷ lifetimes 8 κs qs ∷ ‵ OwnAll ∷ [])) (Post v)
-  exits zs v e =
-      qed W (‵ (R64 .own zs (v ∷ [])) ∷ lifetimes 8 κs qs ∷ ‵ OwnAll ∷ []) ∵
-      suffices ! _ (ends-at 𝓤 H A f.ended stayed (f.clauses 𝓤 H A at-mem run) W ((κs, qs, tt, args, vals), tt) v zs (tt, (tt, (tt, (tt, (tt, (tt, (tt, (tt, (tt, (tt, tt)))))))))) (tt, (tt, (tt, (tt, (tt, (tt, (tt, (tt, (tt, (tt, tt))))))))))) $ says ! e $
-      move ! (1 ∷ []) $ frame ! $ move ! (1 ∷ []) $ use1 W (‵ (owns Params args vals)) sorted-back $ done !
+  exits : (o : Outcome) (v : Val) → Is O.the-row o (v ∷ []) → o .answer ≡ countOf r D n → ent 𝓤 (⋆ 𝓤 H A (lifetimes 8 κs qs ∷ ‵ OwnAll ∷ [])) (Post v)
+  exits o v is e =
+      qed W (lifetimes 8 κs qs ∷ ‵ OwnAll ∷ []) ∵
+      suffices ! _ (ends-at 𝓤 H A f.ended stayed (f.clauses 𝓤 H A at-mem run) W ((κs, qs, tt, args, vals), tt) v o (tt, (tt, (tt, (tt, (tt, (tt, (tt, (tt, (tt, (tt, tt)))))))))) (tt, (tt, (tt, (tt, (tt, (tt, (tt, (tt, (tt, (tt, tt))))))))))) $ says ! e $
+      frame ! $ use1 W (‵ (owns Params args vals)) sorted-back $ owned ! O.the-row (Is O.the-row) (LL.makes O.the-type O′.the-plain 𝓤 H A) o _ is $ move ! (1 ∷ 0 ∷ []) $ done !
 
   -- the call
   abbrev TParams : ℕ → List RattleType
@@ -249,42 +253,42 @@ module _ {M : Type 1} (𝓤 : URA M) (H : Heap 𝓤) (A : Atoms 𝓤) (W : Given
     unfolding partOf
     walk =
         qed W (lifetimes 8 κs qs ∷ ‵ (owns Params args vals) ∷ []) ∵ enter ! C Λ code.function (rv ∷ s₀ ∷ s₁ ∷ s₂ ∷ s₃ ∷ s₄ ∷ s₅ ∷ s₆ ∷ s₇ ∷ vint w64 n ∷ []) _ $
-        alloc1 ! (λ l₀. alloc1 ! (λ l₁. alloc1 ! (λ l₂. alloc1 ! (λ l₃. alloc1 ! (λ l₄. alloc1 ! (λ l₅. alloc1 ! (λ l₆. alloc1 ! (λ l₇. alloc1 ! (λ l₈. alloc1 ! (λ l₉. alloc1 ! (λ l₁₀. alloc1 ! (λ l₁₁. alloc1 ! (λ l₁₂. alloc1 ! (λ l₁₃. alloc1 ! (λ l₁₄. alloc1 ! (λ l₁₅. alloc0 ! $ params1 ! $
-        pass1 ! (init ! 28 refl (LL.lawful R.the-type R′.the-laws 𝓤 H A W .typed r _ r-is .0)) $ pass1 ! (init ! 26 refl (tt, (tt, (record { fits = room₀ .0 }, tt)))) $ pass1 ! (init ! 24 refl (tt, (tt, (record { fits = room₁ .0 }, tt)))) $ pass1 ! (init ! 22 refl (tt, (tt, (record { fits = room₂ .0 }, tt)))) $ pass1 ! (init ! 20 refl (tt, (tt, (record { fits = room₃ .0 }, tt)))) $ pass1 ! (init ! 18 refl (tt, (tt, (record { fits = room₄ .0 }, tt)))) $ pass1 ! (init ! 16 refl (tt, (tt, (record { fits = room₅ .0 }, tt)))) $ pass1 ! (init ! 14 refl (tt, (tt, (record { fits = room₆ .0 }, tt)))) $ pass1 ! (init ! 12 refl (tt, (tt, (record { fits = room₇ .0 }, tt)))) $ pass1 ! (init ! 10 refl (tt, record { fits = n-fits })) $ pass0 ! $
-        assigns ! (agg ! (and-then ! (lit ! tt) (and-then ! (lit ! tt) (no-more !)))) (from ! (stop !)) (init ! 4 refl (tt, (record { fits = lit< tt }, (record { fits = lit< tt }, tt)))) $
+        alloc1 ! (λ l₀. alloc1 ! (λ l₁. alloc1 ! (λ l₂. alloc1 ! (λ l₃. alloc1 ! (λ l₄. alloc1 ! (λ l₅. alloc1 ! (λ l₆. alloc1 ! (λ l₇. alloc1 ! (λ l₈. alloc1 ! (λ l₉. alloc1 ! (λ l₁₀. alloc1 ! (λ l₁₁. alloc1 ! (λ l₁₂. alloc1 ! (λ l₁₃. alloc1 ! (λ l₁₄. alloc1 ! (λ l₁₅. alloc1 ! (λ l₁₆. alloc0 ! $ params1 ! $
+        pass1 ! (init ! 30 refl (LL.lawful R.the-type R′.the-laws 𝓤 H A W .typed r _ r-is .0)) $ pass1 ! (init ! 28 refl (tt, (tt, (record { fits = room₀ .0 }, tt)))) $ pass1 ! (init ! 26 refl (tt, (tt, (record { fits = room₁ .0 }, tt)))) $ pass1 ! (init ! 24 refl (tt, (tt, (record { fits = room₂ .0 }, tt)))) $ pass1 ! (init ! 22 refl (tt, (tt, (record { fits = room₃ .0 }, tt)))) $ pass1 ! (init ! 20 refl (tt, (tt, (record { fits = room₄ .0 }, tt)))) $ pass1 ! (init ! 18 refl (tt, (tt, (record { fits = room₅ .0 }, tt)))) $ pass1 ! (init ! 16 refl (tt, (tt, (record { fits = room₆ .0 }, tt)))) $ pass1 ! (init ! 14 refl (tt, (tt, (record { fits = room₇ .0 }, tt)))) $ pass1 ! (init ! 12 refl (tt, record { fits = n-fits })) $ pass0 ! $
+        assigns ! (agg ! (and-then ! (lit ! tt) (and-then ! (lit ! tt) (no-more !)))) (from ! (stop !)) (init ! 6 refl (tt, (record { fits = lit< tt }, (record { fits = lit< tt }, tt)))) $
         -- what the array is to own, and the array
         owned ! Tok.the-row (Is Tok.the-row) ((LL.makes Tok.the-type Tok′.the-plain) 𝓤 H A) t₀ (m₀ ∷ []) made₀ $ use1 W (‵ (R64 .own xs (arr₀ ∷ []))) (array-repeat 𝓤 H A W Tok.the-row (LL.copy Tok.the-type Tok′.the-copy 𝓤 H A W) 64 t₀ m₀) $
         peeks ! R64 (Is R64) (shows 𝓤 H A R64) xs (arr₀ ∷ []) (λ is.
-        assigns ! (rep ! 64 (load ! (from ! (stop !)) (look ! 5 refl))) (from ! (stop !)) (init ! 9 refl (array-lawful 𝓤 H A W Tok.the-row (LL.lawful Tok.the-type Tok′.the-laws 𝓤 H A W) 64 .typed xs _ is .0)) $
-        assigns ! (addr ! (from ! (stop !))) (from ! (stop !)) (init ! 3 refl (tt, tt)) $
-        assigns ! (agg ! (and-then ! (load ! (from ! (stop !)) (look ! 3 refl)) (and-then ! (load ! (from ! (stop !)) (look ! 11 refl)) (no-more !)))) (from ! (stop !)) (init ! 1 refl (tt, (tt, (record { fits = n-fits }, tt)))) $
+        assigns ! (rep ! 64 (load ! (from ! (stop !)) (look ! 7 refl))) (from ! (stop !)) (init ! 11 refl (array-lawful 𝓤 H A W Tok.the-row (LL.lawful Tok.the-type Tok′.the-laws 𝓤 H A W) 64 .typed xs _ is .0)) $
+        assigns ! (addr ! (from ! (stop !))) (from ! (stop !)) (init ! 5 refl (tt, tt)) $
+        assigns ! (agg ! (and-then ! (load ! (from ! (stop !)) (look ! 5 refl)) (and-then ! (load ! (from ! (stop !)) (look ! 13 refl)) (no-more !)))) (from ! (stop !)) (init ! 3 refl (tt, (tt, (record { fits = n-fits }, tt)))) $
         -- the array is taken apart
-        move ! (9 ∷ 0 ∷ []) $ use1 W (‵ (cellAt fullShare (R64 .mir) (arr₀ ∷ []) l₁₁ 0)) (W .laws .at-raw fullShare (tyArray Tok′.mir 64) l₁₁ 0 arr₀) $
+        move ! (11 ∷ 0 ∷ []) $ use1 W (‵ (cellAt fullShare (R64 .mir) (arr₀ ∷ []) l₁₁ 0)) (W .laws .at-raw fullShare (tyArray Tok′.mir 64) l₁₁ 0 arr₀) $
         fjoin ! $ fpack ! (List Val) (λ us. fsep (cellAt fullShare (R64 .mir) us l₁₁ 0) (R64 .own xs us)) (arr₀ ∷ []) $
         use1 W (‵ (arr-parts (shares Tok.the-row) 64 .part fullShare xs l₁₁ 0)) (array-apart 𝓤 H A W Tok.the-row fullShare tt 64 xs l₁₁ 0) $ fsplit ! $ drop ! $ use1 W (‵ (cells (mem Tok.the-row) xs l₁₁ 0)) (whole-in 𝓤 H A W Tok.the-row xs l₁₁ 0) $
         -- what the shared slices own is had twice
-        move ! (33 ∷ []) $ use1 W (‵ OwnAll) sorted $ use1 W (‵ OwnAll ⊛ ‵ OwnAll) copied $ split ! $ move ! (2 ∷ []) $
+        move ! (35 ∷ []) $ use1 W (‵ OwnAll) sorted $ use1 W (‵ OwnAll ⊛ ‵ OwnAll) copied $ split ! $ move ! (2 ∷ []) $
         -- as much of the array as there is room is lent, for a lifetime ν of the call
         rewrite ! 0 (λ (z : List Token). ‵ (cells (mem Tok.the-row) z l₁₁ 0)) (sym (take-append-drop n xs)) refl $
         use1 W (‵ (cells (mem Tok.the-row) (lent n) l₁₁ 0) ⊛ ‵ (cells (mem Tok.the-row) (kept n) l₁₁ (at 0 (mem Tok.the-row .size) (length (lent n))))) (cut-app 𝓤 H A (mem Tok.the-row) (lent n) (kept n) l₁₁ 0) $ split ! $
         lft-new ! tt (λ ν. move ! (1 ∷ []) $
         use1 W (later (some (λ (γ : GName). ‵ (MutSlice (named 8) (ν ∷ []) Tok.the-row .own (x l₁₁ γ) (sliceVal (l₁₁, 0) (length (lent n)) ∷ [])) ⊛ ‵ (flent (ν ∷ []) (Held Tok.the-row (length (lent n)) l₁₁ 0 γ))))) (lends-slice 𝓤 H A W Tok.the-row (named 8) (ν ∷ []) (lent n) l₁₁ 0 (room-lent n few)) $ await ! tt $ pick ! (λ γ. split ! $
         rewrite ! 0 (λ (m : ℕ). ‵ (MutSlice (named 8) (ν ∷ []) Tok.the-row .own (x l₁₁ γ) (sliceVal (l₁₁, 0) m ∷ []))) (lent-long n few) refl $
-        move ! (2 ∷ 0 ∷ []) $ join ! $ move ! (36 ∷ 3 ∷ 0 ∷ []) $ use3 W (raw (List-it 𝓤 H A at-mem run .pre (to-list ν l₁₁ γ))) (asks ν l₁₁ γ) $
-        -- [what `token_list` asks; the lender's part; what is not lent; what the shared slices own; _15; …; that _11 dies; _10; …; _0; …]
-        calls-at ! fm (List-it 𝓤 H A at-mem run) known (to-list ν l₁₁ γ) (and-then ! (load ! (from ! (stop !)) (look ! 31 refl)) (and-then ! (load ! (from ! (stop !)) (look ! 29 refl)) (and-then ! (load ! (from ! (stop !)) (look ! 27 refl)) (and-then ! (load ! (from ! (stop !)) (look ! 25 refl)) (and-then ! (load ! (from ! (stop !)) (look ! 23 refl)) (and-then ! (load ! (from ! (stop !)) (look ! 21 refl)) (and-then ! (load ! (from ! (stop !)) (look ! 19 refl)) (and-then ! (load ! (from ! (stop !)) (look ! 17 refl)) (and-then ! (load ! (from ! (stop !)) (look ! 15 refl)) (and-then ! (load ! (from ! (stop !)) (look ! 4 refl)) (no-more !))))))))))) (λ v.
+        move ! (2 ∷ 0 ∷ []) $ join ! $ move ! (38 ∷ 3 ∷ 0 ∷ []) $ use3 W (raw (List-it 𝓤 H A at-mem run .pre (to-list ν l₁₁ γ))) (asks ν l₁₁ γ) $
+        -- [what `token_list` asks; the lender's part; what is not lent; what the shared slices own; _16; …; that _11 dies; _10; …; _0; …]
+        calls-at ! fm (List-it 𝓤 H A at-mem run) known (to-list ν l₁₁ γ) (and-then ! (load ! (from ! (stop !)) (look ! 33 refl)) (and-then ! (load ! (from ! (stop !)) (look ! 31 refl)) (and-then ! (load ! (from ! (stop !)) (look ! 29 refl)) (and-then ! (load ! (from ! (stop !)) (look ! 27 refl)) (and-then ! (load ! (from ! (stop !)) (look ! 25 refl)) (and-then ! (load ! (from ! (stop !)) (look ! 23 refl)) (and-then ! (load ! (from ! (stop !)) (look ! 21 refl)) (and-then ! (load ! (from ! (stop !)) (look ! 19 refl)) (and-then ! (load ! (from ! (stop !)) (look ! 17 refl)) (and-then ! (load ! (from ! (stop !)) (look ! 6 refl)) (no-more !))))))))))) (λ v.
         use1 W (later (some (λ (ans : Number). (lifetimes 9 (κs₉ ν) qs₉ ⊛ ‵ (N.the-row .own ans (v ∷ []))) ⊛ raw (Says ν l₁₁ γ ans)))) (id⊢ 𝓤 _) $ await ! tt $ pick ! (λ ans.
         split ! $ move ! (1 ∷ []) $ use1 W (some (λ (ws : Lasts tl.ended (κs₉ ν) (targs ν l₁₁ γ)). ‵ (lasts tl.ended (κs₉ ν) (targs ν l₁₁ γ) ws) ⊛ raw (fact 𝓤 (Listed r D (lent n) ans (ws .1 .1 .1 .1 .1 .1 .1 .1 .1 .0))))) (id⊢ 𝓤 _) $ pick ! (λ ws.
-        split ! $ move ! (1 ∷ []) $ drop ! $ fsplit ! $ drop ! $ fsplit ! $ drop ! $ fsplit ! $ drop ! $ fsplit ! $ drop ! $ fsplit ! $ drop ! $ fsplit ! $ drop ! $ fsplit ! $ drop ! $ fsplit ! $ drop ! $ fsplit ! $ drop ! $ fsplit ! $ fsplit ! $ move ! (1 ∷ []) $ feqL ! (λ long.
+        split ! $ move ! (1 ∷ []) $ heard ! (Listed r D (lent n) ans (ws .1 .1 .1 .1 .1 .1 .1 .1 .1 .0)) (λ is-listed. fsplit ! $ drop ! $ fsplit ! $ drop ! $ fsplit ! $ drop ! $ fsplit ! $ drop ! $ fsplit ! $ drop ! $ fsplit ! $ drop ! $ fsplit ! $ drop ! $ fsplit ! $ drop ! $ fsplit ! $ drop ! $ fsplit ! $ fsplit ! $ move ! (1 ∷ []) $ feqL ! (λ long.
         -- [the list's last value; what is left of the rest; the tokens and the answer; …]
         move ! (1 ∷ []) $ drop ! $ move ! (1 ∷ []) $ split ! $ move ! (1 ∷ []) $ peeks ! N.the-row (Is N.the-row) (shows 𝓤 H A N.the-row) ans (v ∷ []) (λ ans-is.
-        land ! (from ! (stop !)) (init ! 12 refl (EL.lawful N.the-type N′.the-laws 𝓤 H A W tt .typed ans _ ans-is .0)) $ drop ! $
+        land ! (from ! (stop !)) (init ! 14 refl (EL.lawful N.the-type N′.the-laws 𝓤 H A W tt .typed ans _ ans-is .0)) $ drop ! $
         -- the lifetime is ended, and the array comes back
         use1 W (lifetimes 8 κs qs ⊛ ‵ (flft (ν ∷ []) fullShare)) (lifetimes-apart ν) $ split ! $ move ! (1 ∷ []) $ lft-end ! tt $
         let zs : List Token = ws .1 .1 .1 .1 .1 .1 .1 .1 .1 .0 in
         let all : List Token = zs ++ kept n in
         move ! (0 ∷ 3 ∷ 2 ∷ []) $ use3 W (later (‵ (Arr (mem Tok.the-row) (length (lent n)) .lies zs l₁₁ 0))) (slice-back 𝓤 H A W Tok.the-row (ν ∷ []) γ zs (length (lent n)) l₁₁ 0) $ await ! tt $ fsplit ! $ feqL ! (λ e.
-        -- [what was lent; the tokens; what was not lent; what the shared slices own; _15; …]
+        -- [what was lent; the tokens; what was not lent; what the shared slices own; _16; …]
         rewrite ! 2 (λ (m : ℕ). ‵ (cells (mem Tok.the-row) (kept n) l₁₁ (at 0 (mem Tok.the-row .size) m))) (sym e) refl $ move ! (0 ∷ 2 ∷ []) $
         use2 W (‵ (cells (mem Tok.the-row) all l₁₁ 0)) (join-app 𝓤 H A (mem Tok.the-row) zs (kept n) l₁₁ 0) $ use1 W (‵ (row Tok.the-row fullShare all l₁₁ 0)) (whole-out 𝓤 H A W Tok.the-row all l₁₁ 0) $
         let whole : length all ≡ 64 = same-len n xs zs e ∙ length-replicate 64 t₀ in
@@ -293,11 +297,14 @@ module _ {M : Type 1} (𝓤 : URA M) (H : Heap 𝓤) (A : Atoms 𝓤) (W : Given
         spelt ! R64 (Is R64) (shows 𝓤 H A R64) vals64 (array-tells Tok.the-row (LL.vals Tok.the-type Tok′.the-laws) (LL.tells Tok.the-type Tok′.the-laws) 64) fullShare all vs l₁₁ 0 $
         move ! (1 ∷ []) $ peeks ! R64 (Is R64) (shows 𝓤 H A R64) all (vals64 all) (λ is′. move ! (1 ∷ 0 ∷ []) $
         use1 W (‵ (fat fullShare (tyArray Tok′.mir 64) l₁₁ 0 _)) (W .laws .raw-at fullShare (tyArray Tok′.mir 64) l₁₁ 0 _) $
-        -- [_11; what the array owns; the tokens; what the shared slices own; _15; …; _0; …]
-        assigns ! (of-opd ! (load ! (from ! (stop !)) (look ! 0 refl))) (from ! (stop !)) (init ! 33 refl (array-lawful 𝓤 H A W Tok.the-row (LL.lawful Tok.the-type Tok′.the-laws 𝓤 H A W) 64 .typed all _ is′ .0)) $
-        returns ! (look ! 33 refl) $ forget ! 0 refl $ forget ! 4 refl $ forget ! 6 refl $ forget ! 8 refl $ forget ! 10 refl $ forget ! 13 refl $ forget ! 15 refl $ forget ! 17 refl $ forget ! 19 refl $ forget ! 21 refl $ forget ! 23 refl $ forget ! 25 refl $ forget ! 27 refl $ forget ! 29 refl $ forget ! 31 refl $ forget ! 33 refl $
-        move ! (33 ∷ 34 ∷ 31 ∷ 32 ∷ 29 ∷ 30 ∷ 27 ∷ 28 ∷ 25 ∷ 26 ∷ 23 ∷ 24 ∷ 21 ∷ 22 ∷ 19 ∷ 20 ∷ 17 ∷ 18 ∷ 15 ∷ 16 ∷ 13 ∷ 14 ∷ 0 ∷ 12 ∷ 10 ∷ 11 ∷ 8 ∷ 9 ∷ 6 ∷ 7 ∷ 4 ∷ 5 ∷ []) $ free1 ! $ free1 ! $ free1 ! $ free1 ! $ free1 ! $ free1 ! $ free1 ! $ free1 ! $ free1 ! $ free1 ! $ free1 ! $ free1 ! $ free1 ! $ free1 ! $ free1 ! $ free1 ! $ free0 ! $
-        keep ! (0 ∷ 1 ∷ 2 ∷ []) $ by ! (exits all _ whole))))))))))))))))))))))))))))
+        -- [_11; what the array owns; the tokens; what the shared slices own; _16; …; _0; …]
+        let o : Outcome = record { answer = ans; list = all } in
+        let o-is : Is O.the-row o _ = ((v ∷ [], (vals64 all, tt)), (refl, (ans-is, (is-same (Tok.the-field .row) Token (Tok.the-field .into) (Tok.the-field .into-one) 64 all (vals64 all) is′, tt)))) in
+        assigns ! (of-opd ! (load ! (from ! (stop !)) (look ! 0 refl))) (from ! (stop !)) (init ! 4 refl (array-lawful 𝓤 H A W Tok.the-row (LL.lawful Tok.the-type Tok′.the-laws 𝓤 H A W) 64 .typed all _ is′ .0)) $
+        assigns ! (agg ! (and-then ! (load ! (from ! (stop !)) (look ! 12 refl)) (and-then ! (load ! (from ! (stop !)) (look ! 4 refl)) (no-more !)))) (from ! (stop !)) (init ! 35 refl (LL.lawful O.the-type O′.the-laws 𝓤 H A W .typed o _ o-is .0)) $
+        returns ! (look ! 35 refl) $ forget ! 0 refl $ forget ! 4 refl $ forget ! 6 refl $ forget ! 8 refl $ forget ! 10 refl $ forget ! 12 refl $ forget ! 15 refl $ forget ! 17 refl $ forget ! 19 refl $ forget ! 21 refl $ forget ! 23 refl $ forget ! 25 refl $ forget ! 27 refl $ forget ! 29 refl $ forget ! 31 refl $ forget ! 33 refl $ forget ! 35 refl $
+        move ! (35 ∷ 36 ∷ 33 ∷ 34 ∷ 31 ∷ 32 ∷ 29 ∷ 30 ∷ 27 ∷ 28 ∷ 25 ∷ 26 ∷ 23 ∷ 24 ∷ 21 ∷ 22 ∷ 19 ∷ 20 ∷ 17 ∷ 18 ∷ 15 ∷ 16 ∷ 0 ∷ 14 ∷ 12 ∷ 13 ∷ 10 ∷ 11 ∷ 8 ∷ 9 ∷ 6 ∷ 7 ∷ 4 ∷ 5 ∷ []) $ free1 ! $ free1 ! $ free1 ! $ free1 ! $ free1 ! $ free1 ! $ free1 ! $ free1 ! $ free1 ! $ free1 ! $ free1 ! $ free1 ! $ free1 ! $ free1 ! $ free1 ! $ free1 ! $ free1 ! $ free0 ! $
+        keep ! (1 ∷ 2 ∷ []) $ by ! (exits o _ o-is (is-listed .answer-is ∙ ap (countOf r D) (lent-long n few))))))))))))))))))))))))))))))))
 
 module _ {M : Type 1} (𝓤 : URA M) (H : Heap 𝓤) (A : Atoms 𝓤) (W : Given 𝓤 H A) (at-mem : Memory → SProp 𝓤) (run : Routine → Fun 𝓤) where
   filled-walks : (C : Calls 𝓤 H) (Λ : Loops 𝓤 H) → FmC 𝓤 H (W .laws) C → Triple 𝓤 (C #tokens·token-list) (List-it 𝓤 H A at-mem run) → Walks 𝓤 H A f.ended stayed (WpFn 𝓤 H C Λ code.function) (f.clauses 𝓤 H A at-mem run)
