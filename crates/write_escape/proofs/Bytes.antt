@@ -9,11 +9,10 @@ use lib.ListN.{length, getD, set, take, drop, replicate}
 use Rattle.laws.specs.Put.{left-step, left-none}
 use Rattle.laws.specs.If.{if_then_else_}
 use Rattle.sentence.specs.Sentence.{none}
-use Rattle.sentence.specs.declared.Form.{Form}
-use Rattle.sentence.specs.declared.Form.the-variants.{Raw as raw, Tokenized as tokenized, Partial as partial}
 use Rattle.sentence.specs.Reading.{Kind, mark, slash, back, plain, kind}
+use Rattle.sentence.specs.declared.Form.{Form}
 use Rattle.sentence.specs.Writing.{escapeAs, escape}
-use Rattle.write_escape.specs.Escape.{escapes, isPartial, meant}
+use Rattle.write_escape.specs.Escape.{inForm, meant}
 use Rattle.write_escape.specs.Wrote.{Wrote, Writing, write-fits}
 
 as-meant : (k : Kind) (b : ℕ) → meant k ≡ true → escapeAs k b ≡ 92 ∷ b ∷ []
@@ -30,44 +29,38 @@ as-plain slash b e = cc
 as-plain back b e = cc
 as-plain plain b e = refl
 
--- what both annotated forms escape
-pub meant-space : (f : Form) (b : ℕ) (r : Bool) → b ≡ 32 → r ≡ escapes f → r ≡ meant (kind f b)
-unfolding kind meant escapes if_then_else_
-meant-space raw b r e i = i
-meant-space tokenized b r e i = rw (e, i)
-meant-space partial b r e i = rw (e, i)
+-- what both forms escape
+pub meant-space : (p : Bool) (b : ℕ) → b ≡ 32 → true ≡ meant (kind (inForm p) b)
+unfolding kind meant if_then_else_
+meant-space true b e = rw e
+meant-space false b e = rw e
 
-pub meant-slash : (f : Form) (b : ℕ) (r : Bool) → b ≡ 47 → r ≡ escapes f → r ≡ meant (kind f b)
-unfolding kind meant escapes if_then_else_
-meant-slash raw b r e i = i
-meant-slash tokenized b r e i = rw (e, i)
-meant-slash partial b r e i = rw (e, i)
+pub meant-slash : (p : Bool) (b : ℕ) → b ≡ 47 → true ≡ meant (kind (inForm p) b)
+unfolding kind meant if_then_else_
+meant-slash true b e = rw e
+meant-slash false b e = rw e
 
-pub meant-back : (f : Form) (b : ℕ) (r : Bool) → b ≡ 92 → r ≡ escapes f → r ≡ meant (kind f b)
-unfolding kind meant escapes if_then_else_
-meant-back raw b r e i = i
-meant-back tokenized b r e i = rw (e, i)
-meant-back partial b r e i = rw (e, i)
+pub meant-back : (p : Bool) (b : ℕ) → b ≡ 92 → true ≡ meant (kind (inForm p) b)
+unfolding kind meant if_then_else_
+meant-back true b e = rw e
+meant-back false b e = rw e
 
 -- what only the partial form escapes
-pub meant-dash : (f : Form) (b : ℕ) (r : Bool) → b ≡ 45 → r ≡ isPartial f → r ≡ meant (kind f b)
-unfolding kind meant isPartial if_then_else_
-meant-dash raw b r e i = i
-meant-dash tokenized b r e i = rw (e, i)
-meant-dash partial b r e i = rw (e, i)
+pub meant-dash : (p : Bool) (b : ℕ) → b ≡ 45 → p ≡ meant (kind (inForm p) b)
+unfolding kind meant if_then_else_
+meant-dash true b e = rw e
+meant-dash false b e = rw e
 
-pub meant-bar : (f : Form) (b : ℕ) (r : Bool) → b ≡ 124 → r ≡ isPartial f → r ≡ meant (kind f b)
-unfolding kind meant isPartial if_then_else_
-meant-bar raw b r e i = i
-meant-bar tokenized b r e i = rw (e, i)
-meant-bar partial b r e i = rw (e, i)
+pub meant-bar : (p : Bool) (b : ℕ) → b ≡ 124 → p ≡ meant (kind (inForm p) b)
+unfolding kind meant if_then_else_
+meant-bar true b e = rw e
+meant-bar false b e = rw e
 
 -- and nothing else
-pub meant-none : (f : Form) (b : ℕ) → (b ≡ 32 → ⊥) → (b ≡ 47 → ⊥) → (b ≡ 92 → ⊥) → (b ≡ 45 → ⊥) → (b ≡ 124 → ⊥) → false ≡ meant (kind f b)
+pub meant-none : (p : Bool) (b : ℕ) → (b ≡ 32 → ⊥) → (b ≡ 47 → ⊥) → (b ≡ 92 → ⊥) → (b ≡ 45 → ⊥) → (b ≡ 124 → ⊥) → false ≡ meant (kind (inForm p) b)
 unfolding kind meant if_then_else_
-meant-none raw b u v w x y = refl
-meant-none tokenized b u v w x y = rw (ne-eqb b 32 u, ne-eqb b 47 v, ne-eqb b 92 w)
-meant-none partial b u v w x y = rw (ne-eqb b 32 u, ne-eqb b 45 x, ne-eqb b 124 y, ne-eqb b 47 v, ne-eqb b 92 w)
+meant-none true b u v w x y = rw (ne-eqb b 32 u, ne-eqb b 45 x, ne-eqb b 124 y, ne-eqb b 47 v, ne-eqb b 92 w)
+meant-none false b u v w x y = rw (ne-eqb b 32 u, ne-eqb b 47 v, ne-eqb b 92 w)
 
 pub ruleset meanings = (meant-space, meant-slash, meant-back, meant-dash, meant-bar, meant-none)
 
@@ -103,7 +96,7 @@ module _ {out₀ all d : List ℕ} {from n : ℕ} (f : Form) (to i : ℕ) (l : L
 pub copy-room : {out₀ all d : List ℕ} {from n : ℕ} (to i : ℕ) (l : List ℕ) → Writing out₀ from all d n (drop i (take to l)) → i < to → to ≤ length l → n < length d
 copy-room to i l w h k = omega (arith, write-fits w (getD l i 0 ∷ []) _ (left-step to i l h k))
 
-pub ruleset escaping = (escape-meant, escape-plain, escape-none)
+pub ruleset escapes = (escape-meant, escape-plain, escape-none)
 
 -- a loop that counts what the part takes: n so far, up to i
 pub record Counting (f : Form) (part : List ℕ) (to : ℕ) (l : List ℕ) (i n : ℕ) : Type 0 where

@@ -1,20 +1,13 @@
--- The forms that escape, and the bytes that they escape.
+-- The two forms that escape, as the copies are told them, and the bytes that they escape.
 use mathlib.Core.Bool.{Bool, true, false}
-use Rattle.sentence.specs.declared.Form.{Form}
-use Rattle.sentence.specs.declared.Form.the-variants.{Raw as raw, Tokenized as tokenized, Partial as partial}
 use Rattle.sentence.specs.Reading.{Kind, mark, slash, back, plain}
+use Rattle.sentence.specs.declared.Form.{Form}
+use Rattle.sentence.specs.declared.Form.the-variants.{Tokenized as tokenized, Partial as partial}
 
--- the tokenized and the partial form escape
-unfoldable pub escapes : Form → Bool
-escapes raw = false
-escapes tokenized = true
-escapes partial = true
-
--- the form that gives the dash and the bar a meaning
-unfoldable pub isPartial : Form → Bool
-isPartial raw = false
-isPartial tokenized = false
-isPartial partial = true
+-- the partial form, or the tokenized one
+abbrev pub inForm : Bool → Form
+inForm true = partial
+inForm false = tokenized
 
 -- whether a kind of character is written behind a backslash
 unfoldable pub meant : Kind → Bool

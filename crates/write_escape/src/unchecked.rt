@@ -1,66 +1,43 @@
 // Internal: each function assumes that its parts lie in their slices and that the output has room.
-use sentence::Form;
 ghost use Prim.Native.Nat.{_+_, _≤_};
 ghost use mathlib.Core.Path.{_≡_};
 ghost use lib.ListN.{length, take, drop, replicate};
 ghost use Rattle.sentence.specs.Reading.{kind};
 ghost use Rattle.sentence.specs.Writing.{escape};
-ghost use Rattle.write_escape.specs.Escape.{escapes, isPartial, meant};
+ghost use Rattle.write_escape.specs.Escape.{inForm, meant};
 ghost use Rattle.write_escape.specs.Wrote.{Wrote};
 
-// Whether a form escapes: a raw line does not.
-fn escapes(form: Form) -> bool
-    ensures { λ r. ⌜ r ≡ escapes form ⌝ }
-{
-    match form {
-        Form::Raw => false,
-        Form::Tokenized => true,
-        Form::Partial => true,
-    }
-}
-
-// Whether a form gives the dash and the bar a meaning.
-fn is_partial(form: Form) -> bool
-    ensures { λ r. ⌜ r ≡ isPartial form ⌝ }
-{
-    match form {
-        Form::Raw => false,
-        Form::Tokenized => false,
-        Form::Partial => true,
-    }
-}
-
-// Whether a form writes a byte behind a backslash; most bytes are told without the form.
-fn has_meaning(form: Form, b: u8) -> bool
-    ensures { λ r. ⌜ r ≡ meant (kind form b) ⌝ }
+// Whether a byte is written behind a backslash, in the partial form or in the tokenized one.
+fn has_meaning(in_partial: bool, b: u8) -> bool
+    ensures { λ r. ⌜ r ≡ meant (kind (inForm «in_partial») b) ⌝ }
 {
     if b == b' ' {
-        return escapes(form);
+        return true;
     }
     if b == b'/' {
-        return escapes(form);
+        return true;
     }
     if b == b'\\' {
-        return escapes(form);
+        return true;
     }
     if b == b'-' {
-        return is_partial(form);
+        return in_partial;
     }
     if b == b'|' {
-        return is_partial(form);
+        return in_partial;
     }
     false
 }
 
 // How many bytes a part of `src` takes where it is escaped.
-pub fn escaped_len(form: Form, src: &[u8], from: usize, to: usize) -> usize
+pub fn escaped_len(in_partial: bool, src: &[u8], from: usize, to: usize) -> usize
     requires { ⌜ (from ≤ to) × (to ≤ length (now src)) ⌝ }
-    ensures { λ r. ⌜ r ≡ length (escape form (drop from (take to (now (src .entry))))) ⌝ }
+    ensures { λ r. ⌜ r ≡ length (escape (inForm «in_partial») (drop from (take to (now (src .entry))))) ⌝ }
 {
     let mut n = 0;
     let mut i = from;
     while i < to {
-        if has_meaning(form, src[i]) {
+        if has_meaning(in_partial, src[i]) {
             n += 2;
             i += 1;
         } else {
@@ -73,21 +50,21 @@ pub fn escaped_len(form: Form, src: &[u8], from: usize, to: usize) -> usize
 
 // A part of `src`, escaped.
 pub fn copy_escaped(
-    form: Form,
+    in_partial: bool,
     src: &[u8],
     from: usize,
     to: usize,
     out: &mut [u8],
     at: usize,
 ) -> usize
-    requires { ⌜ (from ≤ to) × (to ≤ length (now src)) × (at + length (escape form (drop from (take to (now src)))) ≤ length (now out)) ⌝ }
-    ensures { λ r. ⌜ Wrote (now (out .entry)) at (escape form (drop from (take to (now (src .entry))))) (now (out .exit)) r ⌝ }
+    requires { ⌜ (from ≤ to) × (to ≤ length (now src)) × (at + length (escape (inForm «in_partial») (drop from (take to (now src)))) ≤ length (now out)) ⌝ }
+    ensures { λ r. ⌜ Wrote (now (out .entry)) at (escape (inForm «in_partial») (drop from (take to (now (src .entry))))) (now (out .exit)) r ⌝ }
 {
     let mut i = from;
     let mut n = at;
     while i < to {
         let b = src[i];
-        if has_meaning(form, b) {
+        if has_meaning(in_partial, b) {
             out[n] = b'\\';
             n += 1;
             out[n] = b;

@@ -1,5 +1,4 @@
 // Internal: each function assumes that the cells it goes by follow one another and lie in their buffers, and that the output has room.
-use sentence::Form;
 use sheet::Record;
 use write_escape::unchecked::copy;
 use write_escape::unchecked::copy_escaped;
@@ -10,6 +9,7 @@ ghost use mathlib.Core.Path.{_≡_};
 ghost use lib.ListN.{length, getD};
 ghost use Rattle.sentence.specs.declared.Form.the-variants.{Tokenized as tokenized};
 ghost use Rattle.sentence.specs.Writing.{writeTags};
+ghost use Rattle.write_escape.specs.Escape.{inForm};
 ghost use Rattle.write_escape.specs.Wrote.{Wrote};
 ghost use Rattle.write_items.specs.Items.{cellTags, rowAt, countAt, bytesTo, rowLine, Follow, Lie, RowLies, TextLies, textAt, charLine, tokenLine};
 ghost use Rattle.write_items.specs.Items.{Limited, mostOf};
@@ -78,7 +78,7 @@ pub fn row_count(cell_starts: &[u16], cell_lengths: &[u16], stride: usize, i: us
 
 // The tags of the cells from `k` up to `end`, each behind a slash.
 fn tags_into(
-    form: Form,
+    in_partial: bool,
     cell_starts: &[u16],
     cell_lengths: &[u16],
     tag_bytes: &[u8],
@@ -89,10 +89,10 @@ fn tags_into(
 ) -> usize
     requires { ⌜ (k ≤ end)
         × Lie (now «cell_starts») (now «cell_lengths») end (length (now «tag_bytes»))
-        × (at + length (writeTags form (cellTags (now «cell_starts») (now «cell_lengths») (now «tag_bytes») k (end - k)))
+        × (at + length (writeTags (inForm «in_partial») (cellTags (now «cell_starts») (now «cell_lengths») (now «tag_bytes») k (end - k)))
         ≤ length (now out)) ⌝ }
     ensures { λ r. ⌜ Wrote (now (out .entry)) at
-        (writeTags form (cellTags (now («cell_starts» .entry)) (now («cell_lengths» .entry)) (now («tag_bytes» .entry)) k (end - k)))
+        (writeTags (inForm «in_partial») (cellTags (now («cell_starts» .entry)) (now («cell_lengths» .entry)) (now («tag_bytes» .entry)) k (end - k)))
         (now (out .exit)) r ⌝ }
 {
     let mut j = k;
@@ -101,7 +101,7 @@ fn tags_into(
         let from = wide(cell_starts[j]);
         let to = end_of(cell_starts, cell_lengths, j);
         out[n] = b'/';
-        n = copy_escaped(form, tag_bytes, from, to, out, n + 1);
+        n = copy_escaped(in_partial, tag_bytes, from, to, out, n + 1);
         j += 1;
     }
     n
@@ -109,7 +109,7 @@ fn tags_into(
 
 // The tags of the i-th row, and absent ones up to `columns`, each behind a slash.
 fn row_into(
-    form: Form,
+    in_partial: bool,
     cell_starts: &[u16],
     cell_lengths: &[u16],
     tag_bytes: &[u8],
@@ -120,16 +120,16 @@ fn row_into(
     at: usize,
 ) -> usize
     requires { ⌜ RowLies (now «cell_starts») (now «cell_lengths») (now «tag_bytes») stride i
-        × (at + length (rowLine form columns (rowAt (now «cell_starts») (now «cell_lengths») (now «tag_bytes») stride i))
+        × (at + length (rowLine (inForm «in_partial») columns (rowAt (now «cell_starts») (now «cell_lengths») (now «tag_bytes») stride i))
         ≤ length (now out)) ⌝ }
     ensures { λ r. ⌜ Wrote (now (out .entry)) at
-        (rowLine form columns (rowAt (now («cell_starts» .entry)) (now («cell_lengths» .entry)) (now («tag_bytes» .entry)) stride i))
+        (rowLine (inForm «in_partial») columns (rowAt (now («cell_starts» .entry)) (now («cell_lengths» .entry)) (now («tag_bytes» .entry)) stride i))
         (now (out .exit)) r ⌝ }
 {
     let listed = row_count(cell_starts, cell_lengths, stride, i);
     let k = i * stride;
     let n = tags_into(
-        form,
+        in_partial,
         cell_starts,
         cell_lengths,
         tag_bytes,
@@ -188,7 +188,7 @@ pub fn char_into(
     let to = wide(char_pos[i + 1]);
     let n = copy(text, from, to, out, at);
     row_into(
-        Form::Partial,
+        true,
         cell_starts,
         cell_lengths,
         tag_bytes,
@@ -222,7 +222,7 @@ pub fn char_apart(
 {
     let n = text_into(text, char_pos, i, out, at);
     row_into(
-        Form::Partial,
+        true,
         cell_starts,
         cell_lengths,
         tag_bytes,
@@ -257,9 +257,9 @@ pub fn token_into(
 {
     let from = wide(char_pos[b]);
     let to = wide(char_pos[e]);
-    let n = copy_escaped(Form::Tokenized, text, from, to, out, at);
+    let n = copy_escaped(false, text, from, to, out, at);
     row_into(
-        Form::Tokenized,
+        false,
         cell_starts,
         cell_lengths,
         tag_bytes,
@@ -287,7 +287,7 @@ fn row_len(
     let k = i * columns;
     let from = bytes_to(cell_starts, cell_lengths, k);
     let to = bytes_to(cell_starts, cell_lengths, k + columns);
-    columns + escaped_len(Form::Tokenized, tag_bytes, from, to)
+    columns + escaped_len(false, tag_bytes, from, to)
 }
 
 // How many bytes the characters from `b` up to `e` take as a token.
@@ -310,7 +310,7 @@ pub fn token_len(
 {
     let from = wide(char_pos[b]);
     let to = wide(char_pos[e]);
-    let n = escaped_len(Form::Tokenized, text, from, to);
+    let n = escaped_len(false, text, from, to);
     n + row_len(cell_starts, cell_lengths, tag_bytes, e - 1, columns)
 }
 

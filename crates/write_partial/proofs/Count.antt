@@ -12,7 +12,7 @@ use lib.Seq.{slice-empty}
 use Rattle.laws.specs.If.{if_then_else_, if-true, if-false}
 use Rattle.utf8.specs.Utf8.{width, encodes, size}
 use Rattle.utf8.proofs.Codec.{length-encode, encodes-append}
-use Rattle.sentence.specs.Sentence.{Tag, Mark, none, word, unknown, Cells, final, cell, textOf, rowsOf, text, rows, rowBytes, tagBytes, Row, CellsOf}
+use Rattle.sentence.specs.Sentence.{Tag, Mark, none, word, unknown, Cells, final, cell, textOf, rowsOf, text, rowBytes, tagBytes, Row, CellsOf}
 use Rattle.sentence.specs.declared.Form.the-variants.{Partial as partial}
 use Rattle.sentence.specs.Writing.{escape, writeTags, sign, shown, writePartial, line, written}
 use Rattle.sentence.specs.Withheld.{hidden}

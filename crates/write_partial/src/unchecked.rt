@@ -1,5 +1,4 @@
 // Internal: each function assumes a checked sheet, or parts that lie in their slices, and the writers room for what they write.
-use sentence::Form;
 use sheet::Record;
 use write_escape::unchecked::escaped_len;
 use write_escape::unchecked::repeat;
@@ -175,7 +174,7 @@ fn before_len(
     );
     let listed = row_count(cell_starts, cell_lengths, stride, last);
     let to = bytes_before(cell_starts, cell_lengths, stride, start);
-    let tags = escaped_len(Form::Partial, tag_bytes, 0, to);
+    let tags = escaped_len(true, tag_bytes, 0, to);
     bytes + start + slashes + listed + tags
 }
 
@@ -215,7 +214,7 @@ fn rest_len(
     );
     let start = bytes_before(cell_starts, cell_lengths, stride, from);
     let to = bytes_before(cell_starts, cell_lengths, stride, last + 1);
-    let tags = escaped_len(Form::Partial, tag_bytes, start, to);
+    let tags = escaped_len(true, tag_bytes, start, to);
     bytes + (last - from) + slashes + columns + tags
 }
 

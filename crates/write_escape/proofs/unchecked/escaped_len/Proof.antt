@@ -4,16 +4,17 @@
 use Prim.Native.Nat.{_-_, _≤_}
 use lib.ListN.{take, drop}
 use borrow.Author.Needs.{needs}
+use Rattle.write_escape.specs.Escape.{inForm}
 use Rattle.write_escape.proofs.Bytes.{Counting, counts}
 use Rattle.write_escape.proofs.unchecked.escaped_len.Statement.{statement}
 use Rattle.write_escape.proofs.unchecked.escaped_len.Tie as tie
 
 abbrev Inv-loop : tie.InvT-loop
-Inv-loop form src from to n₀ i₀ n i =
-    (i ≤ to) × Counting form (drop from (take to src)) to src i n
+Inv-loop in-partial src from to n₀ i₀ n i =
+    (i ≤ to) × Counting (inForm in-partial) (drop from (take to src)) to src i n
 
 abbrev μ-loop : tie.MeasureT-loop
-μ-loop form src from to n₀ i₀ n i = to - i
+μ-loop in-partial src from to n₀ i₀ n i = to - i
 
 loop-holds : tie.Need-loop-holds Inv-loop μ-loop
 loop-holds c = search (counts, needs)

@@ -1,6 +1,7 @@
 -- `write_items::unchecked::tags_into` meets its contract. The invariant: the tags from the j-th cell on are left to write.
 use Prim.Native.Nat.{_-_}
 use Rattle.sentence.specs.Writing.{writeTags}
+use Rattle.write_escape.specs.Escape.{inForm}
 use Rattle.write_items.specs.Items.{cellTags}
 use Rattle.write_items.proofs.Tags.{Tagging, tag-part, tagging}
 use borrow.Author.Needs.{needs}
@@ -8,11 +9,12 @@ use Rattle.write_items.proofs.unchecked.tags_into.Statement.{statement}
 use Rattle.write_items.proofs.unchecked.tags_into.Tie as tie
 
 abbrev Inv-loop : tie.InvT-loop
-Inv-loop form cell-starts cell-lengths tag-bytes k end out₀ at j₀ n₀ out j n =
-    Tagging form cell-starts cell-lengths tag-bytes end out₀ at (writeTags form (cellTags cell-starts cell-lengths tag-bytes k (end - k))) out j n
+Inv-loop in-partial cell-starts cell-lengths tag-bytes k end out₀ at j₀ n₀ out j n =
+    let f = inForm in-partial in
+    Tagging f cell-starts cell-lengths tag-bytes end out₀ at (writeTags f (cellTags cell-starts cell-lengths tag-bytes k (end - k))) out j n
 
 abbrev μ-loop : tie.MeasureT-loop
-μ-loop form cell-starts cell-lengths tag-bytes k end out₀ at j₀ n₀ out j n = end - j
+μ-loop in-partial cell-starts cell-lengths tag-bytes k end out₀ at j₀ n₀ out j n = end - j
 
 loop-holds : tie.Need-loop-holds Inv-loop μ-loop
 loop-holds c = search (tagging, needs)
