@@ -2,23 +2,23 @@
 use Prim.Native.Nat.{ℕ, _+_, _-_, _*_, _^_, _≤_, _<_}
 use native.Mathlib.Omega.{arith}
 use mathlib.Core.Path.{_≡_, refl, sym, ap, _∙_}
-use mathlib.Core.Bool.{Bool, true, false}
-use mathlib.Core.List.{List, [], _∷_}
+use mathlib.Core.Bool.{Bool, true}
+use mathlib.Core.List.{List}
 use borrow.Author.Tests.{ltb-false}
 use lib.Dec.{ltb}
 use lib.ListN.{length}
-use Rattle.laws.specs.If.{if_then_else_, if-cases}
+use Rattle.laws.specs.If.{if-cases}
 use Rattle.utf8.specs.Utf8.{scalars, validPrefix}
 use Rattle.utf8.proofs.Codec.{valid-within}
 use Rattle.sentence.specs.declared.Refusal.{Refusal}
 use Rattle.sentence.specs.Sentence.{Sentence}
 use Rattle.sentence.specs.declared.Form.{Form}
 use Rattle.sentence.specs.Forms.{formOf}
-use Rattle.sentence.specs.Reading.{State, at, start, Run, whole, stopped, run, Rest, over, next, Parsed, parsed, gather, Result, sentence, refused, built, placed, read}
+use Rattle.sentence.specs.Reading.{at, start, Run, whole, stopped, run, over, next, Parsed, parsed, gather, Result, sentence, refused, built, placed, read}
 use Rattle.sentence.specs.Writing.{written}
-use Rattle.sentence.specs.Refusals.{refusal, verdict, hostOrder}
+use Rattle.sentence.specs.Refusals.{verdict, hostOrder}
 use Rattle.sentence.proofs.Shape.{read-formed}
-use Rattle.convert_buffers.specs.Between.{Outcome, writes, refuses, overfull, between, answerOf, Converts}
+use Rattle.convert_buffers.specs.Between.{Outcome, writes, refuses, overfull, between, Converts}
 use Rattle.convert.specs.Convert.{unknownForms, outOfRange, conversion, codeOf}
 use Rattle.convert_buffers.specs.declared.Converted.{Converted}
 use Rattle.convert_buffers.specs.declared.Converted.the-variants.{Wrote, Refused}

@@ -1,14 +1,14 @@
 -- How long a written line can be. The bounds are wide; they only say that lengths and codes fit. Assumes nothing.
 use Prim.Native.Nat.{ℕ, zero, suc, _+_, _-_, _*_, _^_, _≤_, _<_}
 use native.Mathlib.Omega.{arith}
-use mathlib.Core.Path.{_≡_, refl, sym, ap, _∙_}
-use mathlib.Core.List.{List, [], _∷_, _++_, map}
+use mathlib.Core.Path.{refl, sym, ap, _∙_}
+use mathlib.Core.List.{List, [], _∷_, map}
 use lib.ListN.{length, take, drop, getD}
 use Rattle.laws.specs.If.{if_then_else_}
 use Rattle.laws.specs.All.{All}
 use Rattle.utf8.specs.Utf8.{width, size}
 use Rattle.utf8.proofs.Codec.{width-small, size-append, length-encodes}
-use Rattle.sentence.specs.Sentence.{Tag, Mark, Cells, final, cell, Sentence, textOf, marksOf, rowsOf, text, marks, rows, pad, cut, rowBytes, tagBytes, Row, CellsOf, Formed}
+use Rattle.sentence.specs.Sentence.{Tag, Cells, final, cell, Sentence, textOf, rowsOf, text, marks, rows, pad, cut, rowBytes, tagBytes, Row, CellsOf, Formed}
 use Rattle.sentence.specs.declared.Form.{Form}
 use Rattle.sentence.specs.declared.Form.the-variants.{Raw as raw, Tokenized as tokenized, Partial as partial}
 use Rattle.sentence.specs.Reading.{Kind, mark, slash, back, plain, kind}

@@ -20,11 +20,11 @@ use Rattle.sheet.specs.declared.Answer.the-variants as answer
 use Rattle.sheet.proofs.Held.{spelled}
 use Rattle.read_scan.specs.Scan.{scanned}
 use Rattle.read_fill.specs.Fill.{filled}
-use Rattle.convert_buffers.specs.Between.{Outcome, writes, refuses, overfull, between, answerOf, outputOf, Converts}
+use Rattle.convert_buffers.specs.Between.{Outcome, refuses, overfull, between, answerOf, outputOf, Converts}
 use Rattle.convert_buffers.specs.Through.{Scanned, Wide, writing}
 use Rattle.convert_buffers.specs.declared.Converted.{Converted}
-use Rattle.convert_buffers.specs.declared.Converted.the-variants.{Wrote, Refused}
-use Rattle.convert_buffers.proofs.Rooms.{Found, found, fill-holds}
+use Rattle.convert_buffers.specs.declared.Converted.the-variants.{Refused}
+use Rattle.convert_buffers.proofs.Rooms.{found, fill-holds}
 
 -- the answer as it is, at the front of the output
 abbrev Passes : Outcome → List ℕ → Converted → List ℕ → Type 0

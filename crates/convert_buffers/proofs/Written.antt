@@ -1,23 +1,22 @@
 -- A sentence written where its line fits, and refused else. Assumes nothing.
-use Prim.Native.Nat.{ℕ, zero, suc, _≤_, _<_}
-use native.Mathlib.Omega.{arith}
+use Prim.Native.Nat.{ℕ, _≤_, _<_}
 use native.Mathlib.Nat.{zero-add}
 use mathlib.Core.Path.{_≡_, refl, sym, ap, _∙_}
 use mathlib.Core.List.{List}
 use borrow.Author.Tests.{lt-ltb, le-ltb}
 use lib.ListN.{length}
-use Rattle.laws.specs.If.{if_then_else_, if-true, if-false}
+use Rattle.laws.specs.If.{if-true, if-false}
 use Rattle.write_escape.specs.Wrote.{Lined}
 use Rattle.write_items.specs.Items.{shortOf}
 use Rattle.write_items.proofs.Room.{short-none, short-some}
 use Rattle.sentence.specs.declared.Refusal.{Refusal}
 use Rattle.sentence.specs.Sentence.{Sentence}
 use Rattle.sentence.specs.declared.Form.{Form}
-use Rattle.sentence.specs.declared.Form.the-variants.{Raw as raw, Tokenized as tokenized, Partial as partial}
+use Rattle.sentence.specs.declared.Form.the-variants.{Raw as raw}
 use Rattle.sentence.specs.Reading.{Annotated}
 use Rattle.sentence.specs.Writing.{written}
 use Rattle.sentence.specs.Refusals.{refusal, verdict}
-use Rattle.convert_buffers.specs.Between.{Outcome, writes, refuses, answerOf, outputOf, Converts}
+use Rattle.convert_buffers.specs.Between.{answerOf, outputOf, Converts}
 use Rattle.convert_buffers.specs.Through.{writing}
 use Rattle.convert_buffers.specs.declared.Converted.{Converted}
 use Rattle.convert_buffers.specs.declared.Converted.the-variants.{Wrote, Refused}

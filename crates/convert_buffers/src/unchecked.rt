@@ -8,7 +8,6 @@ use sentence::Form;
 use sentence::NO_ROOM;
 use sheet::Answer;
 use sheet::Record;
-ghost use mathlib.Core.Path.{_≡_};
 ghost use Prim.Native.Nat.{_≤_};
 ghost use mathlib.Core.Bool.{false};
 ghost use lib.ListN.{length};

@@ -4,7 +4,7 @@ use native.Mathlib.Omega.{arith}
 use mathlib.Core.Path.{_≡_, refl, sym, ap, _∙_}
 use mathlib.Core.Logic.{_↔_, _⊎_, inl, inr}
 use mathlib.Core.Bool.{Bool, true, false, _&&_, _||_, false≢true}
-use mathlib.Core.List.{List, [], _∷_, _++_, map}
+use mathlib.Core.List.{List, [], _∷_, _++_}
 use borrow.Author.Tests.{ne-eqb, eqb-false, lt-ltb, le-ltb, ltb-false}
 use lib.Dec.{eqb, leb, ltb}
 use lib.ListN.{length, take, drop, getD, length-map}
@@ -13,21 +13,18 @@ use Rattle.laws.specs.If.{if_then_else_}
 use Rattle.laws.specs.Put.{over}
 use Rattle.utf8.specs.Utf8.{size}
 use Rattle.utf8.proofs.Codec.{width-small}
-use Rattle.sentence.specs.Sentence.{Tag, Sentence, marks, rows, count, table, listed, rowBytes, Formed}
+use Rattle.sentence.specs.Sentence.{Tag, Sentence, marks, rows, count, table, rowBytes}
 use Rattle.sentence.specs.declared.Form.{Form}
-use Rattle.sentence.specs.declared.Form.the-variants.{Raw as raw, Tokenized as tokenized, Partial as partial}
+use Rattle.sentence.specs.declared.Form.the-variants.{Raw as raw, Partial as partial}
 use Rattle.sentence.specs.Forms.{formOf}
-use Rattle.sentence.specs.Reading.{Annotated, Result, sentence, refused, read}
-use Rattle.sentence.specs.Writing.{tokensFrom, nextToken, written, key}
-use Rattle.sentence.specs.Withheld.{withheld}
+use Rattle.sentence.specs.Reading.{Annotated, sentence, read}
+use Rattle.sentence.specs.Writing.{tokensFrom, written}
 use Rattle.sentence.specs.Refusals.{refusal, verdict, hostOrder}
 use Rattle.sentence.proofs.Shape.{read-narrow}
 use Rattle.sheet.specs.declared.Record.{Record}
 use Rattle.sheet.specs.declared.Answer.{Answer}
 use Rattle.sheet.specs.declared.Answer.the-variants as answer
-use Rattle.sheet.specs.declared.Number.{Number}
 use Rattle.sheet.specs.declared.Number.the-variants as number
-use Rattle.sheet.specs.declared.Slice.{Slice}
 use Rattle.sheet.specs.Layout.{Buffers, recordOf, tagsOf, cellsOf, bytesOf, roomFor, Holds, spell}
 use Rattle.sheet.specs.Check.{inLimits, isLaid, isSheet}
 use Rattle.sheet.specs.Listed.{rowEnds, tagEnds, Lists}
@@ -40,17 +37,15 @@ use Rattle.lookups.proofs.Laws.{cell-length-at}
 use Rattle.lookups.proofs.Slices.{cell-of-table}
 use Rattle.changes.specs.Changes.{lackCells, resetAnswer, TagsReset}
 use Rattle.read_load.specs.Load.{ReadDoes}
-use Rattle.tokens.specs.declared.Token.{Token}
-use Rattle.tokens.specs.Steps.{spanOf, nextOf, listOrder, countOf, Listed}
+use Rattle.tokens.specs.Steps.{spanOf, nextOf, listOrder, countOf}
 use Rattle.write.specs.Answers.{lineOrder}
 use Rattle.convert_buffers.specs.declared.Converted.{Converted}
 use Rattle.convert_buffers.specs.declared.Converted.the-variants as converted
 use Rattle.convert_buffers.specs.Between.{writes, refuses, overfull, between, answerOf, outputOf, Converts}
 use Rattle.convert.specs.Convert.{unknownForms, outOfRange, conversion}
-use Rattle.demands.specs.Demand2.{Taken}
 use Rattle.demands.specs.Padded.{ToldOf, listedOf, PaddedTable}
 use Rattle.demands.proofs.Demand2.{demand-2}
-use Rattle.demands.proofs.Demand3.{demand-3, own-back}
+use Rattle.demands.proofs.Demand3.{own-back}
 
 -- ---- the cells
 no-bytes : (t : Tag) → size t ≡ 0 → t ≡ []

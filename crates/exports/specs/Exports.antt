@@ -21,7 +21,6 @@ use Rattle.sheet.specs.declared.Number.the-variants as number
 use Rattle.read_load.specs.Load.{readAnswer, readLeaves}
 use Rattle.write.specs.Answers.{Puts, lineOrder, lineOf, copyOf, noRange, keyOf}
 use Rattle.tokens.specs.Steps.{nextOf}
-use Rattle.tokens.specs.declared.Step.{Step}
 use Rattle.tokens.specs.declared.Step.the-variants.{Serves, Done}
 use Rattle.tokens.specs.declared.Next.{Next}
 use Rattle.tokens.specs.declared.Next.the-variants as next

@@ -10,7 +10,7 @@ use lib.ListN.{length, take, drop, getD}
 use Rattle.laws.specs.If.{if_then_else_}
 use Rattle.utf8.specs.Utf8.{encodes, size}
 use Rattle.sentence.specs.declared.Refusal.{Refusal}
-use Rattle.sentence.specs.Sentence.{Tag, Sentence, text, rows, count, charPositions, bytePositions, rowBytes, pad, table}
+use Rattle.sentence.specs.Sentence.{Tag, Sentence, text, rows, count, charPositions, bytePositions, pad, table}
 use Rattle.sentence.specs.Writing.{surface}
 use Rattle.sentence.specs.Refusals.{verdict, sheetOrder}
 use Rattle.sheet.specs.declared.Record.{Record}
@@ -21,7 +21,7 @@ use Rattle.sheet.specs.Layout.{Buffers, buffers, Holds, spell}
 use Rattle.sheet.specs.Check.{isSheet}
 use Rattle.sheet.proofs.Held.{length-starts}
 use Rattle.sheet.proofs.Exact.{is-sheet}
-use Rattle.sheet.proofs.Look.{start-is, number-is, bounds, bytes-before, bytes-more, text-stretch, pad-at, cells, cell-stretch, cell-inside, cell-next, cell-fits, cell-in-row, cell-at, neither, passed}
+use Rattle.sheet.proofs.Look.{start-is, number-is, bounds, bytes-before, bytes-more, text-stretch, pad-at, cell-stretch, cell-inside, cell-next, cell-fits, cell-in-row, cell-at, neither, passed}
 use Rattle.lookups.specs.Answers.{startAt, strToCharPos, surfaceSlice, surfaceAt, cell, cellStart, tagSlice, tagAt}
 use Rattle.lookups.proofs.Laws.{found-at, start-sized}
 

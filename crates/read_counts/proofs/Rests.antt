@@ -1,15 +1,15 @@
 -- What follows in a line, as the lists that a sentence is made of. Assumes nothing.
 use Prim.Native.Nat.{ℕ, _+_}
-use mathlib.Core.Path.{_≡_, refl, sym, ap, _∙_}
+use mathlib.Core.Path.{_≡_, refl}
 use mathlib.Core.Bool.{Bool, true, false}
 use mathlib.Core.List.{List, [], _∷_}
 use lib.Dec.{eqb}
 use Rattle.laws.specs.If.{if_then_else_}
 use Rattle.utf8.specs.Utf8.{size}
-use Rattle.sentence.specs.Sentence.{Tag, Mark, Cells, final, cell, textOf, marksOf, rowsOf, cut}
+use Rattle.sentence.specs.Sentence.{Tag, Mark, textOf, marksOf, rowsOf, cut}
 use Rattle.sentence.specs.declared.Form.{Form}
 use Rattle.sentence.specs.declared.Form.the-variants.{Raw as raw, Tokenized as tokenized, Partial as partial}
-use Rattle.sentence.specs.Reading.{Kind, mark, slash, back, plain, kind, Place, start, behind, inTag, gap, State, at, escaped, Act, skip, letter, opens, ofTag, Step, go, stop, ordinary, inside, opening, step, advance, Run, whole, stopped, ending, finish, push, follow, run, Rest, over, next, Parsed, parsed, before, add, gather}
+use Rattle.sentence.specs.Reading.{Kind, mark, slash, back, plain, kind, Place, start, behind, inTag, gap, State, at, escaped, Act, letter, Step, go, stop, ordinary, inside, opening, step, advance, Run, whole, stopped, ending, finish, push, follow, run, Rest, over, next, Parsed, parsed, before, add, gather}
 
 -- the characters, the boundaries before them and their rows
 unfoldable pub lettersIn : Rest → List ℕ

@@ -8,7 +8,7 @@ use native.Mathlib.Omega.{arith}
 use lib.ListN.{length, replicate}
 use Rattle.utf8.specs.Utf8.{width, encode, encodes, size}
 use Rattle.sentence.specs.Sentence.{Tag, cut, pad, rowBytes}
-use Rattle.sentence.specs.Reading.{Act, skip, letter, opens, ofTag, Rest, over, Parsed, parsed, add, gather}
+use Rattle.sentence.specs.Reading.{Act, skip, letter, opens, ofTag, Rest, Parsed, parsed, add, gather}
 use Rattle.sentence.proofs.Trips.{pad-whole, pad-cut}
 use Rattle.sheet.specs.Layout.{tagsOf, cellsOf, cellStarts, bytesOf}
 use Rattle.sheet.proofs.Held.{bytes-joined, bytes-pad}

@@ -1,6 +1,6 @@
 -- What a step of the reader says of the definitions' step: where its number is 0 it goes on, and else it refuses. Assumes nothing.
 use Prim.Native.Nat.{ℕ, _≤_, _<_}
-use mathlib.Core.Path.{_≡_, refl}
+use mathlib.Core.Path.{_≡_}
 use native.Mathlib.Omega.{arith}
 use lib.Dec.{eqb}
 use Rattle.laws.specs.If.{if-both}

@@ -2,7 +2,7 @@
 use mathlib.Core.Path.{_≡_, refl}
 use mathlib.Core.Bool.{Bool, true, false, not, _||_, _&&_}
 use borrow.Author.Tests.{not-true, not-false}
-use Rattle.sentence.specs.Reading.{Place, start, behind, inTag, gap, escaped}
+use Rattle.sentence.specs.Reading.{start, behind, inTag, gap, escaped}
 use Rattle.read_state.specs.declared.State.{State}
 use Rattle.read_state.specs.declared.Mark.{Mark}
 use Rattle.read_state.specs.declared.Mark.the-variants.{None}

@@ -6,7 +6,7 @@ use mathlib.Core.List.{List, [], _∷_, _++_, append-assoc}
 use lib.ListN.{length, getD, take, drop, set, length-set, length-drop, take-append-drop}
 use lib.Seq.{length-take-le}
 use Rattle.sentence.specs.declared.Refusal.{Refusal}
-use Rattle.convert_buffers.specs.Between.{Outcome, writes, refuses, answerOf, outputOf, Converts}
+use Rattle.convert_buffers.specs.Between.{Outcome, writes, refuses, outputOf, Converts}
 use Rattle.convert.specs.Convert.{conversion}
 use Rattle.convert_buffers.specs.declared.Converted.{Converted}
 use Rattle.convert_buffers.specs.declared.Converted.the-variants.{Wrote, Refused}

@@ -2,18 +2,18 @@
 use Prim.Native.Nat.{ℕ, zero, suc, _+_, _-_, _^_, _≤_, _<_}
 use native.Mathlib.Omega.{arith}
 use native.Mathlib.Nat.{sub-zero, zero-sub}
-use mathlib.Core.Path.{_≡_, refl, sym, ap, _∙_}
+use mathlib.Core.Path.{_≡_, refl, sym, _∙_}
 use mathlib.Core.Bool.{Bool, true, false, _&&_, _||_}
 use mathlib.Core.List.{List, [], _∷_}
 use borrow.Author.Tests.{lt-ltb, le-ltb, eq-eqb, ne-eqb}
-use lib.Dec.{eqb, ltb}
+use lib.Dec.{eqb}
 use lib.IntN.{ℤ, pos, negsuc}
 use mir.Syntax.{w32}
 use mir.Val.{SFits, ofZ}
 use lib.ListN.{length, take, drop, length-take, length-drop}
 use native.Mathlib.Numerals.{unary-clauses}
 use lib.Seq.{take-nil, drop-nil, length-take-le}
-use Rattle.laws.specs.If.{if_then_else_, if-true, if-false}
+use Rattle.laws.specs.If.{if-true, if-false}
 use Rattle.respelling.specs.declared.Turn.{Turn}
 use Rattle.respelling.specs.declared.Stand.{Stand}
 use Rattle.respelling.specs.declared.Call.{Call}

@@ -2,7 +2,7 @@
 use Prim.Native.Nat.{ℕ, _+_, _-_, _≤_, _<_}
 use native.Mathlib.Omega.{arith}
 use mathlib.Core.Path.{_≡_, refl, sym, ap, _∙_}
-use mathlib.Core.List.{List, [], _∷_}
+use mathlib.Core.List.{List}
 use lib.ListN.{length, take, drop, getD, set, length-take, length-drop}
 use lib.Seq.{length-take-le, getD-drop, drop-set-lt, drop-drop}
 use Rattle.laws.specs.Put.{Filling, fill-start, fill-more, fill-done, left-step, left-none}

@@ -1,12 +1,11 @@
 -- Bytes put into a slice, one part behind another. Assumes nothing.
-use Prim.Native.Nat.{ℕ, suc, _+_, _-_, _≤_, _<_}
+use Prim.Native.Nat.{ℕ, _+_, _-_, _≤_, _<_}
 use native.Mathlib.Omega.{arith}
-use native.Mathlib.Nat.{add-zero}
 use native.Mathlib.Numerals.{add-one}
 use mathlib.Core.Path.{_≡_, refl, sym, ap, _∙_}
 use mathlib.Core.List.{List, [], _∷_, _++_, append-assoc}
-use lib.ListN.{length, take, drop, set, getD, length-append, length-drop, take-append-drop}
-use lib.Seq.{take-append-add, drop-append-add, take-append-seam, drop-append-seam, length-take-le, drop-drop, drop-append-le, set-split, take-set-le, drop-set-lt}
+use lib.ListN.{length, take, drop, set, length-append, length-drop, take-append-drop}
+use lib.Seq.{take-append-seam, drop-append-seam, length-take-le, drop-drop, drop-append-le, set-split, take-set-le, drop-set-lt}
 use Rattle.laws.specs.Put.{over}
 use Rattle.respelling.specs.Puts.{Puts}
 

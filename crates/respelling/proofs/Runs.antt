@@ -5,9 +5,9 @@ use mathlib.Core.Path.{_≡_, refl, sym, ap, _∙_}
 use mathlib.Core.Bool.{Bool, true, false, not, _&&_, _||_, false≢true}
 use mathlib.Core.List.{List, [], _∷_, _++_, append-nil, append-assoc}
 use borrow.Author.Tests.{eqb-true, ltb-false}
-use lib.Dec.{eqb, ltb}
+use lib.Dec.{eqb}
 use lib.ListN.{length, take, drop, take-append-drop}
-use Rattle.laws.specs.If.{if_then_else_, if-cases}
+use Rattle.laws.specs.If.{if-cases}
 use Rattle.respelling.specs.Respell.{respell}
 use Rattle.respelling.specs.Stream.{Done, turn}
 use Rattle.respelling.specs.Run.{State, begins, answers, reads, writes, fails, isDue, calls, goes, Move, by-answer, by-read, by-write, by-nothing, by-failure, Run, start, moves}

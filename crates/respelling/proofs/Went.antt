@@ -1,20 +1,18 @@
 -- Each call of the system is one move of what stands in the buffers. Assumes nothing.
-use Prim.Native.Nat.{ℕ, zero, suc, _+_, _-_, _≤_, _<_, min}
+use Prim.Native.Nat.{ℕ, _+_, _-_, _≤_, _<_}
 use native.Mathlib.Omega.{arith}
 use native.Mathlib.Nat.{zero-add, add-zero}
 use mathlib.Core.Path.{_≡_, refl, sym, ap, _∙_}
 use mathlib.Core.Bool.{Bool, true, false, not, _&&_, _||_, false≢true}
-use mathlib.Core.List.{List, [], _∷_, _++_, append-nil}
-use borrow.Author.Tests.{le-leb, lt-leb, lt-ltb, le-ltb, ltb-true, ltb-false, eqb-true, eqb-false}
+use mathlib.Core.List.{List, [], _++_}
+use borrow.Author.Tests.{le-leb, lt-leb, lt-ltb, le-ltb, ltb-true, ltb-false, eqb-true}
 use lib.Dec.{eqb, leb, ltb}
 use lib.IntN.{ℤ}
-use lib.ListN.{length, take, drop, length-append, length-take, length-drop, take-append-drop}
-use lib.Seq.{take-append-seam, take-append-le, take-take, take-all, take-add, drop-drop, length-take-le}
+use lib.ListN.{length, take, drop, length-append, length-take, length-drop}
+use lib.Seq.{take-append-seam, take-take, take-all, take-add, drop-drop, length-take-le}
 use Rattle.laws.specs.If.{if_then_else_, if-true, if-false, if-cases}
-use Rattle.laws.specs.Put.{over}
 use Rattle.respelling.specs.declared.Stand.{Stand}
 use Rattle.respelling.specs.declared.Call.{Call}
-use Rattle.respelling.specs.Puts.{Puts}
 use Rattle.respelling.specs.Stream.{Done, turn}
 use Rattle.respelling.specs.Run.{State, stateOf, begins, answers, reads, writes, fails, isDue, calls, goes, Move, by-answer, by-read, by-write, by-nothing, by-failure, Run, start, moves, Stands, first, heldEnd, answeredStand, Answered, Kept, readTold, writeTold, afterFailure, afterRead, afterWrite, Behind, ReadSome, WroteSome, goesOn, Went, Ran, Ended}
 use Rattle.respelling.specs.Respell.{respell, whole}

@@ -2,15 +2,15 @@
 use Prim.Native.Nat.{ℕ, zero, suc, _+_, _-_, _≤_, _<_}
 use native.Mathlib.Omega.{arith}
 use mathlib.Core.Path.{_≡_, refl, sym, ap, _∙_}
-use mathlib.Core.Bool.{Bool, true, false, _&&_, _||_, or-true, or-false, false≢true}
+use mathlib.Core.Bool.{Bool, true, false, _&&_, _||_, or-true, false≢true}
 use mathlib.Core.List.{List, [], _∷_, _++_, append-nil, append-assoc}
-use borrow.Author.Tests.{eqb-true, ltb-true, ltb-false}
+use borrow.Author.Tests.{eqb-true, ltb-true}
 use lib.Dec.{eqb, ltb}
 use lib.ListN.{length, take, drop, take-append-drop}
 use lib.Seq.{drop-drop}
 use Rattle.laws.specs.If.{if_then_else_, if-true, if-false, if-cases}
-use Rattle.respelling.specs.Respell.{answer, before, lines, answers, respell, fed, whole}
-use Rattle.respelling.specs.Stream.{lineLen, Done, done, step, andThen, steps, turn}
+use Rattle.respelling.specs.Respell.{before, lines, answers, respell, fed, whole}
+use Rattle.respelling.specs.Stream.{lineLen, Done, step, andThen, steps, turn}
 use Rattle.respelling.specs.Run.{State, begins, reads, writes, fails, isDue, calls, Move, by-answer, by-read, by-write, by-nothing, by-failure, Run, start, moves}
 use Rattle.respelling.specs.Run as run
 use Rattle.respelling.proofs.Lines.{len-feed, len-byte, lines-feed, lines-byte}

@@ -2,7 +2,7 @@
 use Prim.Native.Nat.{ℕ}
 use Prim.Native.Char.{code as chr}
 use mathlib.Core.Path.{_≡_, refl}
-use mathlib.Core.List.{List, [], _∷_, _++_, map}
+use mathlib.Core.List.{List, _++_}
 use lib.ListN.{replicate}
 use Rattle.laws.specs.If.{if_then_else_}
 use Rattle.laws.specs.Quoted.{quoted}

@@ -5,7 +5,6 @@ use mathlib.Core.Bool.{Bool, false, _||_}
 use mathlib.Core.List.{List, [], _∷_, _++_}
 use lib.Dec.{eqb}
 use Rattle.laws.specs.If.{if_then_else_}
-use Rattle.sentence.specs.declared.Refusal.{Refusal}
 use Rattle.sentence.specs.Forms.{letter}
 use Rattle.sentence.specs.Refusals.{refusal}
 use Rattle.convert_buffers.specs.Between.{Outcome, writes, refuses}

@@ -1,23 +1,23 @@
 -- Demand 3 about the definitions: written lines tell sentences apart, read back, and survive the trip through the tokenized form. Assumes nothing.
-use Prim.Native.Nat.{ℕ, zero, suc, _+_, _-_, _≤_}
+use Prim.Native.Nat.{ℕ, zero, _+_, _-_, _≤_}
 use mathlib.Core.Path.{_≡_, refl, sym, ap, subst, _∙_}
 use mathlib.Core.Logic.{_↔_}
-use mathlib.Core.Bool.{Bool, true, false}
+use mathlib.Core.Bool.{true, false}
 use mathlib.Core.List.{List, [], _∷_, _++_, map}
 use native.Mathlib.Omega.{arith}
-use lib.Dec.{eqb, ltb}
-use lib.ListN.{length, replicate}
-use borrow.Author.Tests.{ltb-false, le-ltb}
-use Rattle.laws.specs.If.{if_then_else_, if-false}
+use lib.Dec.{ltb}
+use lib.ListN.{length}
+use borrow.Author.Tests.{le-ltb}
+use Rattle.laws.specs.If.{if-false}
 use Rattle.laws.specs.All.{All, All-append}
-use Rattle.utf8.specs.Utf8.{scalars, validPrefix, scalar, encodes, size}
+use Rattle.utf8.specs.Utf8.{scalars, validPrefix, scalar}
 use Rattle.utf8.proofs.Codec.{scalars-encodes, valid-encodes}
-use Rattle.sentence.specs.Sentence.{Tag, Mark, none, word, unknown, Cells, final, cell, Sentence, textOf, marksOf, rowsOf, text, marks, rows, table, onto, cut, pad, Char, Row, CellsOf, Formed, Agree, NoUnknown, NoneInside}
+use Rattle.sentence.specs.Sentence.{Tag, Mark, none, word, unknown, Cells, final, cell, Sentence, textOf, marksOf, rowsOf, text, marks, table, onto, cut, pad, Char, Row, CellsOf, Formed, Agree, NoUnknown, NoneInside}
 use Rattle.sentence.specs.declared.Form.{Form}
 use Rattle.sentence.specs.declared.Form.the-variants.{Raw as raw, Tokenized as tokenized, Partial as partial}
-use Rattle.sentence.specs.Reading.{Annotated, Kind, mark, slash, back, plain, kind, at, start, Run, whole, stopped, run, Rest, over, next, Parsed, parsed, gather, Result, sentence, refused, built, placed, read}
+use Rattle.sentence.specs.Reading.{Annotated, Kind, mark, slash, back, plain, kind, Run, whole, stopped, next, parsed, gather, sentence, refused, built, placed, read}
 use Rattle.sentence.specs.Writing.{escapeAs, escape, writeTags, sign, shown, writePartial, line, written}
-use Rattle.sentence.proofs.Runs.{Got, got, bad, gathered, reads}
+use Rattle.sentence.proofs.Runs.{got, gathered}
 use Rattle.sentence.proofs.Trips.{cut-pad, pad-shows, shown-shows, Whole, plainly, line-plainly, Fits, reads-line}
 use Rattle.sentence.proofs.Shape.{ReadIn, read-formed}
 

@@ -1,17 +1,16 @@
 -- The reader over what a writer writes, piece by piece: what a run gathers. Assumes nothing.
-use Prim.Native.Nat.{ℕ, zero, suc, max}
-use mathlib.Core.Path.{_≡_, refl, sym, ap, _∙_}
-use mathlib.Core.Bool.{Bool, true, false}
+use Prim.Native.Nat.{ℕ, zero, max}
+use mathlib.Core.Path.{_≡_, refl, _∙_}
+use mathlib.Core.Bool.{true, false}
 use mathlib.Core.List.{List, [], _∷_, _++_, append-assoc, append-nil}
 use lib.Dec.{eqb}
 use lib.ListN.{length}
 use Rattle.laws.specs.If.{if_then_else_}
 use Rattle.laws.specs.All.{All}
-use Rattle.utf8.specs.Utf8.{size}
-use Rattle.sentence.specs.Sentence.{Tag, Mark, none, word, unknown, Char}
+use Rattle.sentence.specs.Sentence.{Tag, Mark, none, word, Char}
 use Rattle.sentence.specs.declared.Form.{Form}
 use Rattle.sentence.specs.declared.Form.the-variants.{Raw as raw, Tokenized as tokenized, Partial as partial}
-use Rattle.sentence.specs.Reading.{Annotated, Kind, mark, slash, back, plain, kind, Place, start, behind, inTag, gap, State, at, escaped, Act, skip, letter, opens, ofTag, Step, go, stop, ordinary, inside, opening, step, advance, Run, whole, stopped, ending, finish, push, follow, run, Rest, over, next, Parsed, parsed, before, add, gather}
+use Rattle.sentence.specs.Reading.{Annotated, Kind, mark, slash, back, plain, kind, Place, behind, inTag, gap, State, at, escaped, Act, skip, go, ordinary, inside, step, advance, Run, whole, stopped, ending, finish, push, follow, run, Rest, over, next, Parsed, parsed, before, add, gather}
 use Rattle.sentence.specs.Writing.{escapeAs, escape, writeTags}
 
 -- what the acts of a run gather, or its refusal

@@ -1,7 +1,7 @@
 -- Reading a line: one reader, a small state that each character steps, for the raw, the tokenized and the partial form.
-use Prim.Native.Nat.{ℕ, zero, suc, _+_, _-_, max}
+use Prim.Native.Nat.{ℕ, zero, _+_, _-_, max}
 use Prim.Native.Char.{code as chr}
-use mathlib.Core.Bool.{Bool, true, false}
+use mathlib.Core.Bool.{true, false}
 use mathlib.Core.List.{List, [], _∷_, _++_}
 use lib.Dec.{eqb, ltb}
 use lib.ListN.{length}

@@ -1,7 +1,7 @@
 -- Worked lines: what is asked of a line, and the answer, as numbers. The first of them are document 01's marked ones.
-use Prim.Native.Nat.{ℕ, zero, suc}
+use Prim.Native.Nat.{ℕ, zero}
 use mathlib.Core.Path.{_≡_, refl}
-use mathlib.Core.Bool.{Bool, true, false}
+use mathlib.Core.Bool.{true, false}
 use mathlib.Core.List.{List, [], _∷_, _++_, map}
 use Prim.Native.Char.{code as chr}
 use lib.IntN.{ℤ, pos, negsuc}
@@ -10,13 +10,13 @@ use Rattle.laws.specs.Quoted.{quoted}
 use Rattle.utf8.specs.Utf8.{utf8-2, utf8-3, utf8-4, charOf, walk, wholes, values, width, encode, encodes, size}
 use Rattle.utf8.specs.Text.{text-of}
 use Rattle.types.specs.TypeOf.{find, ranges, typeOf}
-use Rattle.sentence.specs.Sentence.{Tag, Mark, none, word, unknown, code, Cells, final, cell, Sentence, textOf, marksOf, rowsOf, text, marks, rows}
+use Rattle.sentence.specs.Sentence.{Tag, none, word, code, final, Sentence, textOf, marksOf, rowsOf, text, marks, rows}
 use Rattle.sentence.specs.Sentence.{count, types, starts, numbers, charPositions, bytePositions, onto, cut, pad}
 use Rattle.sentence.specs.declared.Form.{Form}
 use Rattle.sentence.specs.declared.Form.the-variants.{Raw as raw, Tokenized as tokenized, Partial as partial}
 use Rattle.sentence.specs.Reading.{kind, ordinary, inside, opening, step, advance, unfinished, ending, finish, push, follow, run, before, add, gather}
 use Rattle.sentence.specs.Reading.{Result, sentence, refused, built, placed, read}
-use Rattle.sentence.specs.Writing.{Token, token, tokens, tokensFrom, Served, serves, done, first, nextToken, surface, escapeAs, escape, writeTags}
+use Rattle.sentence.specs.Writing.{Token, token, tokens, tokensFrom, Served, serves, done, first, nextToken, escapeAs, escape, writeTags}
 use Rattle.sentence.specs.Writing.{writeToken, joined, sign, shown, writePartial, line, written, key, bare, marked, resetTags, setMark, setBoundary}
 use Rattle.sentence.specs.Writing.{decision, scored, blank}
 use Rattle.sentence.specs.Withheld.{inRange, touches, hidden, widest, trimmed, withheld}

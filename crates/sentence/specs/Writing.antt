@@ -8,7 +8,7 @@ use lib.IntN.{ℤ, pos, negsuc}
 use lib.ListN.{length, take, drop, getD}
 use Rattle.laws.specs.If.{if_then_else_}
 use Rattle.utf8.specs.Utf8.{encodes}
-use Rattle.sentence.specs.Sentence.{Tag, Mark, none, word, unknown, Cells, final, cell, Sentence, text, marks, rows, count, cut, pad}
+use Rattle.sentence.specs.Sentence.{Tag, Mark, none, word, unknown, Cells, final, cell, Sentence, text, marks, rows, cut, pad}
 use Rattle.sentence.specs.Withheld.{trimmed}
 use Rattle.sentence.specs.declared.Form.{Form}
 use Rattle.sentence.specs.declared.Form.the-variants.{Raw as raw, Tokenized as tokenized, Partial as partial}

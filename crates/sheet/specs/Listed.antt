@@ -3,7 +3,7 @@ use Prim.Native.Nat.{ℕ, _+_, _-_}
 use mathlib.Core.List.{List, [], _∷_, map}
 use lib.ListN.{length, take, drop}
 use Rattle.utf8.specs.Utf8.{scalars, size}
-use Rattle.sentence.specs.Sentence.{Tag, Sentence, rows, listed}
+use Rattle.sentence.specs.Sentence.{Tag, Sentence, rows}
 use Rattle.sheet.specs.declared.Record.{Record}
 use Rattle.sheet.specs.Layout.{Buffers, tagsOf, bytesOf, Front, markOf, link}
 

@@ -5,7 +5,7 @@ use mathlib.Core.Path.{_≡_, refl, sym, _∙_}
 use mathlib.Core.Bool.{Bool, true, false, not, _&&_, false≢true, and-assoc, and-true, and-false, and-eq-true-iff}
 use mathlib.Core.List.{List, [], _∷_}
 use borrow.Author.Tests.{eq-eqb, eqb-true, ne-eqb, eqb-false, le-leb, lt-leb, not-true, not-false}
-use lib.Dec.{eqb, leb, eqb·suc-zero}
+use lib.Dec.{eqb, eqb·suc-zero}
 use lib.ListN.{length, take, drop, getD, length-take, length-drop}
 use lib.Seq.{take-all, drop-drop, getD-drop}
 use Rattle.laws.specs.Put.{drop-step, drop-none}

@@ -4,7 +4,6 @@ use sheet::Record;
 use tokens::Token;
 ghost use Prim.Native.Nat.{_≤_};
 ghost use mathlib.Core.Path.{_≡_};
-ghost use lib.ListN.{length};
 ghost use Rattle.sheet.specs.Layout.{lentBefore};
 ghost use Rattle.tokens.specs.Steps.{countOf};
 

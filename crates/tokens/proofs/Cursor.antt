@@ -2,16 +2,16 @@
 use Prim.Native.Nat.{ℕ, zero, suc, _+_, _-_, _≤_, _<_}
 use mathlib.Core.Path.{_≡_, refl, sym, ap, _∙_}
 use mathlib.Core.Bool.{Bool, true, false, _&&_, and-eq-true-iff}
-use mathlib.Core.List.{List, [], _∷_, map}
+use mathlib.Core.List.{List, [], _∷_}
 use native.Mathlib.Omega.{arith}
 use lib.Dec.{eqb, leb}
-use borrow.Author.Tests.{le-leb, lt-leb, eqb-true, eq-eqb}
+use borrow.Author.Tests.{le-leb, lt-leb, eqb-true}
 use lib.ListN.{length, take, drop, getD, length-map, length-take, List·getD-map, drop-of-length-le}
 use lib.Seq.{drop-cons, getD-take}
-use Rattle.laws.specs.If.{if_then_else_, if-true, if-false}
+use Rattle.laws.specs.If.{if-true, if-false}
 use Rattle.sentence.specs.Sentence.{Mark, none, word, unknown}
-use Rattle.sentence.specs.Writing.{Token, token, tokens, tokensFrom, Served, serves, done, first, nextToken}
-use Rattle.sentence.proofs.Tokens.{InOrder, onward, onward-start, served-in-order, served-onward, done-onward}
+use Rattle.sentence.specs.Writing.{token, tokens, tokensFrom, Served, serves, done, first, nextToken}
+use Rattle.sentence.proofs.Tokens.{onward, onward-start, served-in-order, served-onward, done-onward}
 use Rattle.sheet.specs.Layout.{markOf}
 use Rattle.tokens.specs.declared.Token.{Token as Span}
 use Rattle.tokens.specs.declared.Step.{Step}

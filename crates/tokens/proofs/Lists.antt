@@ -1,20 +1,19 @@
 -- A list that is filled with tokens, one step of the cursor after another. Assumes nothing.
-use Prim.Native.Nat.{ℕ, zero, suc, _+_, _-_, _≤_, _<_}
-use mathlib.Core.Path.{_≡_, refl, sym, ap, _∙_}
-use mathlib.Core.Bool.{Bool, true, false, not}
+use Prim.Native.Nat.{ℕ, _+_, _-_, _≤_, _<_}
+use mathlib.Core.Path.{_≡_, refl, sym, ap}
+use mathlib.Core.Bool.{Bool, true, false}
 use mathlib.Core.List.{List, [], _∷_, map}
 use native.Mathlib.Omega.{arith}
 use lib.Dec.{ltb}
-use borrow.Author.Tests.{ltb-true, ltb-false}
+use borrow.Author.Tests.{ltb-false}
 use lib.ListN.{length, set, length-map}
 use Rattle.laws.specs.If.{if_then_else_}
 use Rattle.laws.specs.Put.{over, Filling, fill-start, fill-more, fill-keep, fill-done}
-use Rattle.sentence.specs.Sentence.{marks}
-use Rattle.sentence.specs.Writing.{Token, token, tokensFrom, Served, serves, done, nextToken}
+use Rattle.sentence.specs.Writing.{token, tokensFrom, Served, serves, done, nextToken}
 use Rattle.sentence.specs.Refusals.{verdict}
 use Rattle.sentence.proofs.Tokens.{onward, onward-start, done-onward}
 use Rattle.sheet.specs.declared.Record.{Record}
-use Rattle.sheet.specs.Layout.{Buffers, spell}
+use Rattle.sheet.specs.Layout.{Buffers}
 use Rattle.sheet.specs.Check.{isSheet}
 use Rattle.sheet.proofs.Exact.{is-sheet}
 use Rattle.tokens.specs.declared.Token.{Token as Span}

@@ -1,6 +1,6 @@
 -- Where a character stands, its lead byte says how long it is. Assumes nothing.
 use Prim.Native.Nat.{ℕ, _+_, _*_, _%_, _≤_, _<_}
-use mathlib.Core.Path.{_≡_, refl, sym, ap, _∙_}
+use mathlib.Core.Path.{_≡_, refl, _∙_}
 use mathlib.Core.Bool.{Bool, true, false}
 use mathlib.Core.List.{List}
 use native.Mathlib.Omega.{arith}
@@ -9,9 +9,8 @@ use borrow.Author.Tests.{le-leb, lt-leb}
 use lib.ListN.{length, getD}
 use Rattle.laws.specs.If.{if_then_else_}
 use Rattle.laws.proofs.Facts.{reads, untrue}
-use Rattle.utf8.specs.declared.Decoded.{Decoded}
-use Rattle.utf8.specs.declared.Decoded.the-variants.{Char, Bad, End}
-use Rattle.utf8.specs.Utf8.{utf8-1, utf8-2, utf8-3, utf8-4, charOf, decodeAt, isChar}
+use Rattle.utf8.specs.declared.Decoded.the-variants.{Char, Bad}
+use Rattle.utf8.specs.Utf8.{utf8-2, utf8-3, utf8-4, charOf, decodeAt, isChar}
 use Rattle.utf8.proofs.Laws.{decode-in, decode-out, char-within}
 
 -- the lead bytes of each length

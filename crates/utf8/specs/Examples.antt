@@ -1,10 +1,9 @@
 -- Worked examples. Each computes.
-use Prim.Native.Nat.{ℕ}
 use mathlib.Core.Path.{_≡_, refl}
 use mathlib.Core.Bool.{false}
-use mathlib.Core.List.{List, [], _∷_}
+use mathlib.Core.List.{[], _∷_}
 use Rattle.laws.specs.If.{if_then_else_}
-use Rattle.utf8.specs.declared.Decoded.the-variants.{Char, Bad, End}
+use Rattle.utf8.specs.declared.Decoded.the-variants.{Char, Bad}
 use Rattle.utf8.specs.Utf8.{utf8-2, utf8-3, utf8-4, charOf, charAt, walk, wholes, validPrefix, scalar, encode, filled}
 
 euro : charAt (0xE2 ∷ 0x82 ∷ 0xAC ∷ []) ≡ Char 0x20AC 3

@@ -10,7 +10,6 @@ use lib.Seq.{take-at}
 use Rattle.laws.specs.If.{if_then_else_}
 use Rattle.laws.specs.Put.{over}
 use Rattle.sentence.specs.Refusals.{refusal, Check, verdict}
-use Rattle.sentence.specs.declared.Form.{Form}
 use Rattle.sentence.specs.declared.Refusal.{Refusal}
 use Rattle.sheet.specs.declared.Record.{Record}
 use Rattle.sheet.specs.declared.Number.{Number}

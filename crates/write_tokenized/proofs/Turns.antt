@@ -9,7 +9,7 @@ use Rattle.utf8.specs.Utf8.{encodes}
 use Rattle.utf8.proofs.Codec.{encodes-append}
 use Rattle.sentence.specs.Sentence.{Sentence, marks}
 use Rattle.sentence.specs.declared.Form.the-variants.{Tokenized as tokenized}
-use Rattle.sentence.specs.Writing.{token, writeToken, line, written, nextToken, done}
+use Rattle.sentence.specs.Writing.{token, writeToken, written, nextToken, done}
 use Rattle.sentence.proofs.Tokens.{onward, done-onward}
 use Rattle.sheet.specs.declared.Record.{Record}
 use Rattle.sheet.specs.Layout.{Buffers, spell, Sheet}

@@ -3,7 +3,6 @@ use crate::Converted;
 use crate::unchecked::writing::write_as;
 use sentence::Form;
 use sheet::Record;
-ghost use mathlib.Core.Path.{_≡_};
 ghost use mathlib.Core.Bool.{false};
 ghost use lib.ListN.{length};
 ghost use Rattle.sentence.specs.Reading.{Annotated, read};

@@ -7,7 +7,6 @@ use write_partial::unchecked::partial_into;
 use write_partial::unchecked::partial_short;
 use write_tokenized::unchecked::tokenized_into;
 use write_tokenized::unchecked::tokenized_short;
-ghost use mathlib.Core.Path.{_≡_};
 ghost use lib.ListN.{length};
 ghost use Rattle.sentence.specs.declared.Form.the-variants.{Tokenized as tokenized, Partial as partial};
 ghost use Rattle.sentence.specs.Reading.{Annotated};

@@ -1,8 +1,5 @@
 -- `read_scan::finished` meets its contract.
 use Rattle.read_scan.proofs.Scanning.{told-whole, told-stop}
-use Rattle.read_scan.specs.Scan.{told}
-use Rattle.read_counts.specs.Counts.{tallies}
-use Rattle.read_state.specs.Flags.{ended}
 use borrow.Author.Needs.{needs}
 use Rattle.read_scan.proofs.finished.Statement.{statement}
 use Rattle.read_scan.proofs.finished.Tie as tie

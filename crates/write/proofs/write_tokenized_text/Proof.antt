@@ -1,6 +1,5 @@
 -- `write::write_tokenized_text` meets its contract.
 use mathlib.Core.Path.{refl}
-use Rattle.sentence.specs.declared.Form.the-variants.{Tokenized as tokenized}
 use Rattle.sheet.proofs.Look.{checked}
 use Rattle.write_items.proofs.Room.{short-none}
 use Rattle.write.proofs.Laws.{put-13, put-12, put-line}

@@ -1,5 +1,4 @@
 -- `read_state::State::step` meets its contract.
-use Rattle.read_state.specs.Flags.{kindOf}
 use Rattle.sentence.specs.Reading.{advance}
 use Rattle.read_state.proofs.Steps.{hands-escaped, hands-literal, hands-mark, hands-slash, hands-back, hands-plain}
 use Rattle.laws.proofs.Tests.{tests}

@@ -1,5 +1,4 @@
 -- `read_state::unchecked::follow` meets its contract.
-use Rattle.read_state.specs.Flags.{kindOf}
 use Rattle.read_state.proofs.Steps.{hands-escaped, hands-literal, hands-mark, hands-slash, hands-back, hands-plain}
 use borrow.Author.Needs.{needs}
 use Rattle.read_state.proofs.unchecked.follow.Statement.{statement}
