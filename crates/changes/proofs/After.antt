@@ -8,6 +8,7 @@ use borrow.Author.Tests.{not-false, ltb-false}
 use lib.ListN.{length}
 use Rattle.utf8.specs.Utf8.{scalar, width, size}
 use Rattle.laws.specs.If.{if_then_else_}
+use Rattle.laws.proofs.Facts.{neither}
 use Rattle.sentence.specs.declared.Refusal.{Refusal}
 use Rattle.sentence.specs.Sentence.{Sentence, text, rows, count, textOf, rowsOf, cut, rowBytes, tagBytes, Formed}
 use Rattle.sentence.specs.Writing.{setBoundary, resetTags, blank}
@@ -19,7 +20,7 @@ use Rattle.sheet.specs.Layout.{Buffers, recordOf, roomFor, Holds, spell, markOf
 use Rattle.sheet.proofs.Held.{laid-holds}
 use Rattle.sheet.proofs.Eights.{same-is}
 use Rattle.sheet.proofs.Exact.{room-has, is-sheet}
-use Rattle.sheet.proofs.Look.{bounds, Passed, passed, neither}
+use Rattle.sheet.proofs.Look.{bounds, Passed, passed}
 use Rattle.changes.specs.Changes.{Lays, DefaultSet, defaultAnswer, BoundarySet, boundaryAnswer, TagsReset, lackCells, resetAnswer}
 use Rattle.changes.proofs.Changed.{text-set, rows-set, set-formed, text-bare, rows-bare, no-tag-bytes, reset-formed}
 

@@ -8,6 +8,7 @@ use borrow.Author.Tests.{lt-ltb, le-ltb, ltb-false}
 use lib.Dec.{ltb}
 use lib.ListN.{length}
 use Rattle.laws.specs.If.{if_then_else_}
+use Rattle.laws.proofs.Facts.{neither}
 use Rattle.sentence.specs.Sentence.{Sentence, count}
 use Rattle.sentence.specs.Writing.{resetTags}
 use Rattle.sentence.specs.Refusals.{refusal, verdict}
@@ -15,7 +16,7 @@ use Rattle.sheet.specs.declared.Record.{Record}
 use Rattle.sheet.specs.declared.Answer.the-variants as answer
 use Rattle.sheet.specs.Layout.{Buffers, recordOf, spell, Sheet}
 use Rattle.sheet.specs.Check.{isSheet}
-use Rattle.sheet.proofs.Look.{bounds, checked, neither}
+use Rattle.sheet.proofs.Look.{bounds, checked}
 use Rattle.changes.specs.Changes.{lackCells, resetAnswer}
 
 module _ (r : Record) (d : Buffers) (c : ℕ) (g : Bool) (e : g ≡ isSheet r d) where

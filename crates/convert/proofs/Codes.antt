@@ -1,5 +1,5 @@
 -- The host's number fits 64 bits, and tells two answers apart. Assumes nothing.
-use Prim.Native.Nat.{ℕ, _+_, _-_, _*_, _^_, _≤_, _<_}
+use Prim.Native.Nat.{ℕ, _-_, _^_, _≤_, _<_}
 use native.Mathlib.Omega.{arith}
 use mathlib.Core.Path.{_≡_, refl, sym, ap, _∙_}
 use mathlib.Core.Bool.{Bool, true}
@@ -16,7 +16,7 @@ use Rattle.sentence.specs.declared.Form.{Form}
 use Rattle.sentence.specs.Forms.{formOf}
 use Rattle.sentence.specs.Reading.{at, start, Run, whole, stopped, run, over, next, Parsed, parsed, gather, Result, sentence, refused, built, placed, read}
 use Rattle.sentence.specs.Writing.{written}
-use Rattle.sentence.specs.Refusals.{verdict, hostOrder}
+use Rattle.sentence.specs.Refusals.{refusalCode, verdict, hostOrder}
 use Rattle.sentence.proofs.Shape.{read-formed}
 use Rattle.convert_buffers.specs.Between.{Outcome, writes, refuses, overfull, between, Converts}
 use Rattle.convert.specs.Convert.{unknownForms, outOfRange, conversion, codeOf}
@@ -83,9 +83,9 @@ module _ (reader writer : ℕ) (x : List ℕ) (size place : ℕ) {out end : List
   unfolding codeOf
   code-wrote q = record { answer = ap codeOf (sym q ∙ p .answer); output = p .output }
 
-  pub code-refused : {q : Refusal} → r ≡ Refused q → Converts codeOf (conversion reader writer x size place) place out (2 ^ 63 + 256 * q .place + q .number) end
+  pub code-refused : {q : Refusal} {c : ℕ} → r ≡ Refused q → c ≡ refusalCode q → Converts codeOf (conversion reader writer x size place) place out c end
   unfolding codeOf
-  code-refused {q} e = record { answer = ap codeOf (sym e ∙ p .answer); output = p .output }
+  code-refused {q} e i = record { answer = i ∙ ap codeOf (sym e ∙ p .answer); output = p .output }
 
 -- end places and refusal numbers as they occur
 abbrev pub Ordinary : Converted → Type 0
@@ -94,7 +94,7 @@ Ordinary (Refused r) = r .number < 256
 
 -- no two of them have one code
 pub codes-apart : (a b : Converted) → Ordinary a → Ordinary b → codeOf a ≡ codeOf b → a ≡ b
-unfolding codeOf
+unfolding codeOf refusalCode
 codes-apart (Wrote d) (Wrote e) h k q = ap Wrote q
 codes-apart (Wrote d) (Refused r) h k q = absurd (omega arith)
 codes-apart (Refused r) (Wrote e) h k q = absurd (omega arith)

@@ -7,7 +7,7 @@ use lib.ListN.{length, take, drop, getD}
 use Rattle.laws.specs.If.{if_then_else_}
 use Rattle.laws.specs.All.{All}
 use Rattle.utf8.specs.Utf8.{width, size}
-use Rattle.utf8.proofs.Codec.{width-small, size-append, length-encodes}
+use Rattle.utf8.proofs.Codec.{width-small, size-append, length-encodes, size-long}
 use Rattle.sentence.specs.Sentence.{Tag, Cells, final, cell, Sentence, textOf, rowsOf, text, marks, rows, pad, cut, rowBytes, tagBytes, Row, CellsOf, Formed}
 use Rattle.sentence.specs.declared.Form.{Form}
 use Rattle.sentence.specs.declared.Form.the-variants.{Raw as raw, Tokenized as tokenized, Partial as partial}
@@ -17,7 +17,6 @@ use Rattle.sentence.proofs.Shape.{cut-bytes}
 use Rattle.sentence.proofs.Trips.{Shows, pad-shows, shown-shows}
 use Rattle.sentence.proofs.Tokens.{tokens-few}
 use Rattle.sheet.proofs.Held.{length-marks, rows-are}
-use Rattle.convert_buffers.proofs.Rooms.{count-size}
 
 -- ---- tags
 escape-one : (k : Kind) (c : ℕ) → size (escapeAs k c) ≤ 2 * width c
@@ -103,6 +102,6 @@ module _ (s : Sentence) (h : Formed s) where
   unfolding line
   written-small raw = omega (arith, length-encodes (text s), h .text-fits)
   written-small tokenized =
-      omega (arith, length-encodes (line tokenized s), tokens-size (tokensFrom (marks s) 0), tokens-few (marks s), length-marks (s .cells), count-size (text s), h .text-fits)
+      omega (arith, length-encodes (line tokenized s), tokens-size (tokensFrom (marks s) 0), tokens-few (marks s), length-marks (s .cells), size-long (text s), h .text-fits)
   written-small partial =
-      omega (arith, length-encodes (line partial s), partial-size (s .columns) (s .cells) (h .columns-fit) (h .cells-are), count-size (text s), h .text-fits, h .bytes-fit)
+      omega (arith, length-encodes (line partial s), partial-size (s .columns) (s .cells) (h .columns-fit) (h .cells-are), size-long (text s), h .text-fits, h .bytes-fit)

@@ -1,24 +1,25 @@
 -- The checks of a conversion, and the part of the output behind the place. Assumes nothing.
-use Prim.Native.Nat.{ℕ, _+_, _-_, _≤_, _<_}
+use Prim.Native.Nat.{ℕ, _+_, _-_, _≤_}
 use native.Mathlib.Omega.{arith}
 use native.Mathlib.Nat.{zero-add}
 use mathlib.Core.Path.{_≡_, refl, sym, ap, _∙_}
-use mathlib.Core.Bool.{Bool, true, false, _||_, false≢true}
+use mathlib.Core.Bool.{Bool, true, false}
 use mathlib.Core.List.{List, _++_}
 use borrow.Author.Tests.{ltb-false}
-use lib.Dec.{eqb, ltb}
+use lib.Dec.{ltb}
 use lib.ListN.{length, take, drop, length-drop, take-append-drop}
 use Rattle.laws.specs.If.{if_then_else_}
 use Rattle.laws.specs.Put.{over}
 use Rattle.laws.proofs.Tail.{lent, back}
+use Rattle.laws.proofs.Facts.{neither}
 use Rattle.sentence.specs.declared.Refusal.{Refusal}
 use Rattle.sentence.specs.Sentence.{Sentence}
 use Rattle.sentence.specs.declared.Form.{Form}
-use Rattle.sentence.specs.Forms.{formOf}
+use Rattle.sentence.specs.Forms.{noReader, noWriter, formOf}
 use Rattle.sentence.specs.Reading.{Annotated, Result, sentence, refused, read}
 use Rattle.sentence.specs.Writing.{written}
 use Rattle.sentence.specs.Refusals.{refusal, verdict, hostOrder}
-use Rattle.sentence.proofs.Forms.{is-annotated}
+use Rattle.sentence.proofs.Forms.{annotated}
 use Rattle.convert_buffers.specs.Between.{Outcome, writes, refuses, overfull, between, answerOf, outputOf, Converts}
 use Rattle.convert.specs.Convert.{unknownForms, outOfRange, conversion}
 use Rattle.convert_buffers.specs.declared.Converted.{Converted}
@@ -68,17 +69,10 @@ unfolding conversion
 unknown reader writer x out at e t =
     refuses-plain at out (rw (sym e ∙ t) (between-unknown (outOfRange (length out) at) (formOf reader) (formOf writer) (length out - at) x))
 
--- neither of two tests is true
-neither : (p q : Bool) → (p || q) ≡ false → (p ≡ false) × (q ≡ false)
-neither true q e = absurd (false≢true (sym e))
-neither false q e = (refl, e)
-
 -- a form to write is annotated
-pub annotated : (reader writer : ℕ) {b : Bool} {g : Form} → b ≡ unknownForms reader writer → b ≡ false → g ≡ formOf writer → Annotated g
+pub to-annotated : (reader writer : ℕ) {b : Bool} {g : Form} → b ≡ unknownForms reader writer → b ≡ false → g ≡ formOf writer → Annotated g
 unfolding unknownForms
-annotated reader writer e t j =
-    let known = (neither (ltb 2 reader) (eqb writer 0) ((neither (ltb 2 reader || eqb writer 0) (ltb 2 writer) (sym e ∙ t)) .0)) .1 in
-    rw j (is-annotated writer known)
+to-annotated reader writer e t j = annotated writer refl (neither (noReader reader) (noWriter writer) (sym e ∙ t) .1) j
 
 pub in-range : (size at : ℕ) {d : Bool} → d ≡ outOfRange size at → d ≡ false → at ≤ size
 unfolding outOfRange

@@ -1,16 +1,17 @@
 -- The conversion by form numbers, behind a place of an output, and the host's number for its answer.
-use Prim.Native.Nat.{ℕ, _+_, _-_, _*_, _^_}
+use Prim.Native.Nat.{ℕ, _-_}
 use mathlib.Core.Bool.{Bool, _||_}
 use mathlib.Core.List.{List}
-use lib.Dec.{eqb, ltb}
-use Rattle.sentence.specs.Forms.{formOf}
+use lib.Dec.{ltb}
+use Rattle.sentence.specs.Forms.{noReader, noWriter, formOf}
+use Rattle.sentence.specs.Refusals.{refusalCode}
 use Rattle.convert_buffers.specs.Between.{Outcome, between}
 use Rattle.convert_buffers.specs.declared.Converted.{Converted}
 use Rattle.convert_buffers.specs.declared.Converted.the-variants.{Wrote, Refused}
 
--- a number above 2 is no form, and raw is no form to write
+-- one of two numbers is no form to read, or no form to write
 unfoldable pub unknownForms : ℕ → ℕ → Bool
-unknownForms reader writer = ltb 2 reader || eqb writer 0 || ltb 2 writer
+unknownForms reader writer = noReader reader || noWriter writer
 
 -- an output longer than 1,048,576, or a place past its end
 unfoldable pub outOfRange : ℕ → ℕ → Bool
@@ -20,7 +21,7 @@ outOfRange size at = ltb 1048576 size || ltb size at
 unfoldable pub conversion : ℕ → ℕ → List ℕ → ℕ → ℕ → Outcome
 conversion reader writer x size at = between (unknownForms reader writer) (outOfRange size at) (formOf reader) (formOf writer) (size - at) x
 
--- an answer as the host's number: the end place, or 2^63 plus 256 times the refusal's place plus its number
+-- an answer as the host's number: the end place, or the refusal's number
 unfoldable pub codeOf : Converted → ℕ
 codeOf (Wrote e) = e
-codeOf (Refused r) = 2 ^ 63 + 256 * r .place + r .number
+codeOf (Refused r) = refusalCode r

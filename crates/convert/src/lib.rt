@@ -3,6 +3,7 @@ use convert_buffers::Converted;
 use sentence::Form;
 use sentence::NO_FORM;
 use sentence::Refusal;
+use sentence::unchecked::refusal_code;
 ghost use mathlib.Core.Path.{_≡_};
 ghost use lib.ListN.{length};
 ghost use Rattle.convert_buffers.specs.Between.{Converts};
@@ -12,7 +13,7 @@ ghost use Rattle.convert.specs.Convert.{unknownForms, outOfRange, conver
 fn unknown_forms(reader: u32, writer: u32) -> bool
     ensures { λ r. ⌜ r ≡ unknownForms reader writer ⌝ }
 {
-    (2 < reader) | (writer == 0) | (2 < writer)
+    Form::no_reader(reader) | Form::no_writer(writer)
 }
 
 // Whether an output is too long, or a place lies past its end.
@@ -44,8 +45,8 @@ pub fn convert(reader: u32, writer: u32, line: &[u8], out: &mut [u8], at: usize)
     }
 }
 
-// The conversion for a host in another language: the answer as one number. Where the line is written it is the end place; else it is 2^63 plus 256
-// times the refusal's place plus its number.
+// The conversion for a host in another language: the answer as one number. Where the line is written it is the end place; else it is the refusal's
+// number, 2^63 plus 256 times its place plus its number.
 #[no_mangle]
 pub extern "C" fn ighdelmur_convert(
     reader: u32,
@@ -59,6 +60,6 @@ pub extern "C" fn ighdelmur_convert(
 {
     match convert(reader, writer, line, out, at) {
         Converted::Wrote(e) => e as u64,
-        Converted::Refused(r) => 9223372036854775808 + 256 * r.place as u64 + r.number as u64,
+        Converted::Refused(r) => refusal_code(r),
     }
 }

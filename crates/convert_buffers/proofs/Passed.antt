@@ -2,12 +2,13 @@
 use Prim.Native.Nat.{ℕ, _≤_, _<_}
 use native.Mathlib.Omega.{arith}
 use mathlib.Core.Path.{_≡_, refl, sym, ap, _∙_}
-use mathlib.Core.Bool.{Bool, true, false, _&&_, false≢true}
+use mathlib.Core.Bool.{Bool, true, false, _&&_}
 use mathlib.Core.List.{List}
 use borrow.Author.Tests.{lt-ltb, le-ltb, ltb-false, leb-true}
 use lib.Dec.{leb, ltb}
 use lib.ListN.{length}
 use Rattle.laws.specs.If.{if_then_else_}
+use Rattle.laws.proofs.Facts.{both}
 use Rattle.sentence.specs.declared.Refusal.{Refusal}
 use Rattle.sentence.specs.Sentence.{Sentence}
 use Rattle.sentence.specs.declared.Form.{Form}
@@ -91,19 +92,10 @@ module _ (f : Form) (x : List ℕ) {a : Answer} (e : a ≡ scanned (read f x)) w
           let y : q ≡ refusal n l = cc (rw k at e) in
           rw (between-refuses f g room x n l k) (record { answer = ap Refused y; output = refl })
 
--- two tests that are both true
-first-true : (p q : Bool) → (p && q) ≡ true → p ≡ true
-first-true true q e = refl
-first-true false q e = absurd (false≢true e)
-
-second-true : (p q : Bool) → (p && q) ≡ true → q ≡ true
-second-true true q e = e
-second-true false q e = absurd (false≢true e)
-
 -- the bytes and the cells that the code tests together
 module _ (n m k : ℕ) (e : (leb n k && leb m k) ≡ true) where
   pub few-bytes : n ≤ k
-  few-bytes = leb-true _ _ (first-true (leb n k) (leb m k) e)
+  few-bytes = leb-true _ _ (both (leb n k) (leb m k) e .0)
 
   pub few-cells : m ≤ k
-  few-cells = leb-true _ _ (second-true (leb n k) (leb m k) e)
+  few-cells = leb-true _ _ (both (leb n k) (leb m k) e .1)

@@ -1,12 +1,11 @@
 -- Buffers as long as a line, with as many cells as its sentence, have room for it. Assumes nothing.
-use Prim.Native.Nat.{ℕ, _≤_}
+use Prim.Native.Nat.{ℕ}
 use native.Mathlib.Omega.{arith}
 use mathlib.Core.Path.{_≡_, refl, ap}
 use mathlib.Core.Bool.{true}
-use mathlib.Core.List.{List, [], _∷_}
+use mathlib.Core.List.{List}
 use lib.ListN.{length}
-use Rattle.utf8.specs.Utf8.{size}
-use Rattle.utf8.proofs.Codec.{width-small}
+use Rattle.utf8.proofs.Codec.{size-long}
 use Rattle.sentence.specs.Sentence.{Sentence, text}
 use Rattle.sentence.specs.declared.Form.{Form}
 use Rattle.sentence.specs.Reading.{Result, sentence, refused, read}
@@ -21,15 +20,9 @@ use Rattle.read_scan.specs.Scan.{scanned}
 use Rattle.read_fill.specs.Fill.{Fits, filled}
 use Rattle.convert_buffers.specs.Through.{Scanned, Wide}
 
--- a character takes a byte at least
-pub count-size : (cs : List ℕ) → length cs ≤ size cs
-unfolding size
-count-size [] = omega arith
-count-size (c ∷ cs) = omega (arith, width-small c, count-size cs)
-
 wide-room : (f : Form) (x : List ℕ) (s : Sentence) (d : Buffers) → read f x ≡ sentence s → Wide (length x) (recordOf s .cells) d → roomFor (recordOf s) d ≡ true
 unfolding recordOf
-wide-room f x s d e w = room-has (recordOf s) d (omega (arith, read-light f x s e, count-size (text s), w))
+wide-room f x s d e w = room-has (recordOf s) d (omega (arith, read-light f x s e, size-long (text s), w))
 
 -- ---- the sentence of a line that was scanned
 pub record Found (x : Result) (r : Record) : Type 0 where

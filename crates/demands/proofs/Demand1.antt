@@ -13,7 +13,7 @@ use lib.ListN.{length, drop, getD, length-take, length-drop}
 use lib.Seq.{drop-at, drop-drop, getD-drop}
 use Rattle.laws.specs.If.{if_then_else_, if-cases, if-true}
 use Rattle.laws.specs.Put.{over as put}
-use Rattle.laws.proofs.Facts.{reads, or-is}
+use Rattle.laws.proofs.Facts.{reads, or-is, both}
 use Rattle.utf8.specs.declared.Decoded.{Decoded}
 use Rattle.utf8.specs.declared.Decoded.the-variants as decoded
 use Rattle.utf8.specs.Utf8.{scalars, validPrefix, charAt, decodeAt, scalar, width, encode, encodes, size}
@@ -25,7 +25,7 @@ use Rattle.sentence.specs.Sentence.{Mark, word, Sentence}
 use Rattle.sentence.specs.Reading.{Kind, mark, slash, back, plain, kind, Place, start, behind, inTag, gap, State, at, escaped, Act, skip, letter, opens, ofTag, Step, go, stop, ordinary, inside, opening, step, advance, Run, whole, stopped, unfinished, ending, finish, push, follow, run, over, next, Parsed, parsed, add, gather, Result, sentence, refused, built, placed, read}
 use Rattle.sentence.specs.declared.Form.{Form}
 use Rattle.sentence.specs.declared.Form.the-variants.{Raw as raw, Tokenized as tokenized, Partial as partial}
-use Rattle.sentence.specs.Forms.{formOf}
+use Rattle.sentence.specs.Forms.{formOf, noReader}
 use Rattle.sentence.specs.Writing.{written, blank}
 use Rattle.sentence.specs.Refusals.{refusal, Check, check, verdict, sheetOrder, readerOrder, updateOrder, hostOrder}
 use Rattle.sheet.specs.declared.Record.{Record}
@@ -54,7 +54,7 @@ use Rattle.convert_buffers.specs.declared.Converted.{Converted}
 use Rattle.convert_buffers.specs.Between.{Outcome, writes, between, overfull, answerOf, outputOf, Converts}
 use Rattle.convert_buffers.specs.Between.{refuses as no-line}
 use Rattle.convert.specs.Convert.{unknownForms, outOfRange, conversion, codeOf}
-use Rattle.exports.specs.Exports.{noReader, readFirst, readCode, readNumbers, hostAnswer, hostLeaves, HostReads, hostWriteOrder, numberCode, HostWrites, nearest, spanned, stepCode, stepSpan, HostSteps}
+use Rattle.exports.specs.Exports.{readFirst, readCode, readNumbers, hostAnswer, hostLeaves, HostReads, hostWriteOrder, numberCode, HostWrites, nearest, spanned, stepCode, stepSpan, HostSteps}
 use Rattle.respelling.proofs.Runs.{finished}
 use Rattle.respelling.proofs.Whole.{only-whole}
 use Rattle.demands.specs.Demand1.{Said, serves, refuses, ofAnswer, ofNumber, ofSlice, ofNext, ofConverted, Allowed, exactly, allows, oneOf, Answers, Settled, Blanked, formRefusals, lineRefusals, readRefusals, updateRefusals, askRefusals, resetRefusals, fillRefusals, copyRefusals, passRefusals, convertRefusals, Stands, Demand1}
@@ -593,10 +593,6 @@ six (r ∷ rs) = leb 1 (r .2) && leb (r .2) 6 && six rs
 all-six : six ranges ≡ true
 unfolding six ranges
 all-six = refl
-
-both : (a b : Bool) → (a && b) ≡ true → (a ≡ true) × (b ≡ true)
-both true b e = (refl, e)
-both false b e = absurd (false≢true e)
 
 found-six : (c : ℕ) (rs : List Row) → six rs ≡ true → (1 ≤ find rs c) × (find rs c ≤ 6)
 unfolding find six

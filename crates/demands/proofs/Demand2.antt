@@ -137,7 +137,7 @@ boundaries : (r : Record) (d : Buffers) (s : Sentence) (i : ℕ) (a : Number) �
 unfolding boundaryAt verdict if_then_else_
 boundaries r d s i a h k e = e ∙ rw (holds-is r d s h, spelled r d s h, lt-leb (count s - 1) i k)
 
--- what a tag's part tells, by where its bytes lie
+-- what a tag's slice tells, by where its bytes lie
 tells : (t : Tag) (at : ℕ) (bytes : List ℕ) → (at + size t ≤ length bytes) × (take (size t) (drop at bytes) ≡ encodes t) → Tells t bytes (tagSlice at t)
 unfolding tagSlice
 tells [] at bytes h = refl

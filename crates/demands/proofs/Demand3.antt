@@ -199,12 +199,9 @@ converts reader writer x u out out′ place end s i e w =
 unfoldable zeros : Record → Buffers
 zeros r = each (λ n. replicate n 0) (takes r)
 
-long : (n : ℕ) → length (replicate {A = ℕ} n 0) ≡ n
-long n = length-replicate n 0
-
 enough : (r : Record) → roomFor r (zeros r) ≡ true
 unfolding zeros
-enough r = room-has r (zeros r) (every (λ i. rw (pick-each (λ (n : ℕ). replicate {A = ℕ} n 0) (takes r) i, long) (omega arith)))
+enough r = room-has r (zeros r) (every (λ i. rw (pick-each (λ (n : ℕ). replicate {A = ℕ} n 0) (takes r) i, length-replicate) (omega arith)))
 
 spelt : (g : Form) (r : Record) (d : Buffers) (s : Sentence) → Holds r d s → Spelt g r d (written g s)
 spelt g r d s h =

@@ -1,26 +1,28 @@
 -- The padded table over the public functions, from the laws of the layout and of the contracts. Assumes nothing.
-use Prim.Native.Nat.{ℕ, zero, suc, _+_, _-_, _*_, _≤_, _<_}
+use Prim.Native.Nat.{ℕ, _+_, _-_, _*_, _≤_, _<_}
 use native.Mathlib.Omega.{arith}
 use mathlib.Core.Path.{_≡_, refl, sym, ap, _∙_}
 use mathlib.Core.Logic.{_↔_, _⊎_, inl, inr}
 use mathlib.Core.Bool.{Bool, true, false, _&&_, _||_, false≢true}
-use mathlib.Core.List.{List, [], _∷_, _++_}
-use borrow.Author.Tests.{ne-eqb, eqb-false, lt-ltb, le-ltb, ltb-false}
+use mathlib.Core.List.{List, [], _++_}
+use borrow.Author.Tests.{ne-eqb, lt-ltb, le-ltb, ltb-false}
 use lib.Dec.{eqb, leb, ltb}
 use lib.ListN.{length, take, drop, getD, length-map}
 use lib.Seq.{take-length}
 use Rattle.laws.specs.If.{if_then_else_}
 use Rattle.laws.specs.Put.{over}
+use Rattle.laws.proofs.Facts.{neither}
 use Rattle.utf8.specs.Utf8.{size}
-use Rattle.utf8.proofs.Codec.{width-small}
+use Rattle.utf8.proofs.Codec.{no-bytes}
 use Rattle.sentence.specs.Sentence.{Tag, Sentence, marks, rows, count, table, rowBytes}
 use Rattle.sentence.specs.declared.Form.{Form}
-use Rattle.sentence.specs.declared.Form.the-variants.{Raw as raw, Partial as partial}
-use Rattle.sentence.specs.Forms.{formOf}
-use Rattle.sentence.specs.Reading.{Annotated, sentence, read}
+use Rattle.sentence.specs.declared.Form.the-variants.{Partial as partial}
+use Rattle.sentence.specs.Forms.{formOf, noReader, noWriter}
+use Rattle.sentence.specs.Reading.{sentence, read}
 use Rattle.sentence.specs.Writing.{tokensFrom, written}
 use Rattle.sentence.specs.Refusals.{refusal, verdict, hostOrder}
 use Rattle.sentence.proofs.Shape.{read-narrow}
+use Rattle.sentence.proofs.Forms.{writer-reads}
 use Rattle.sheet.specs.declared.Record.{Record}
 use Rattle.sheet.specs.declared.Answer.{Answer}
 use Rattle.sheet.specs.declared.Answer.the-variants as answer
@@ -30,7 +32,7 @@ use Rattle.sheet.specs.Check.{inLimits, isLaid, isSheet}
 use Rattle.sheet.specs.Listed.{rowEnds, tagEnds, Lists}
 use Rattle.sheet.proofs.Held.{laid-holds, spelled, tag-bytes-held}
 use Rattle.sheet.proofs.Exact.{holds-is}
-use Rattle.sheet.proofs.Look.{bounds, cell-start-is, cell-fits, neither}
+use Rattle.sheet.proofs.Look.{bounds, cell-start-is, cell-fits}
 use Rattle.sheet.proofs.Listed.{same-spelled}
 use Rattle.lookups.specs.Answers.{cell}
 use Rattle.lookups.proofs.Laws.{cell-length-at}
@@ -43,16 +45,12 @@ use Rattle.convert_buffers.specs.declared.Converted.{Converted}
 use Rattle.convert_buffers.specs.declared.Converted.the-variants as converted
 use Rattle.convert_buffers.specs.Between.{writes, refuses, overfull, between, answerOf, outputOf, Converts}
 use Rattle.convert.specs.Convert.{unknownForms, outOfRange, conversion}
+use Rattle.convert.proofs.Placed.{to-annotated}
 use Rattle.demands.specs.Padded.{ToldOf, listedOf, PaddedTable}
 use Rattle.demands.proofs.Demand2.{demand-2}
 use Rattle.demands.proofs.Demand3.{own-back}
 
 -- ---- the cells
-no-bytes : (t : Tag) → size t ≡ 0 → t ≡ []
-unfolding size
-no-bytes [] h = refl
-no-bytes (c ∷ t) h = absurd (omega (arith, width-small c))
-
 none-sized : (t : Tag) → t ≡ [] → size t ≡ 0
 unfolding size
 none-sized t e = rw e
@@ -191,17 +189,7 @@ module _ (reader writer : ℕ) (x out : List ℕ) (at : ℕ) (s : Sentence) (i :
 -- a form that may be written may be read
 known-again : (reader writer : ℕ) → unknownForms reader writer ≡ false → unknownForms writer writer ≡ false
 unfolding unknownForms
-known-again reader writer h =
-    let k = neither (ltb 2 reader || eqb writer 0) (ltb 2 writer) h in
-    let l = neither (ltb 2 reader) (eqb writer 0) (k .0) in
-    rw (k .1, l .1)
-
--- a form that may be written is an annotated one
-annotated : (reader writer : ℕ) → unknownForms reader writer ≡ false → Annotated (formOf writer)
-unfolding unknownForms formOf
-annotated reader zero h = absurd (eqb-false zero 0 (neither (ltb 2 reader) (eqb zero 0) (neither (ltb 2 reader || eqb zero 0) (ltb 2 zero) h .0) .1) refl)
-annotated reader (suc zero) h = tt
-annotated reader (suc (suc n)) h = tt
+known-again reader writer h = let k = neither (noReader reader) (noWriter writer) h .1 in rw (writer-reads writer k, k)
 
 back : (reader writer : ℕ) (x u out out′ buf buf′ : List ℕ) (at end p : ℕ) (a : Converted) (s : Sentence)
     → (formOf reader ≡ formOf writer) ⊎ (formOf writer ≡ partial) → read (formOf reader) x ≡ sentence s → u ≡ written (formOf writer) s
@@ -211,7 +199,7 @@ back : (reader writer : ℕ) (x u out out′ buf buf′ : List ℕ) (at end p : 
     → (a ≡ converted.Wrote (p + length u)) × (buf′ ≡ take p buf ++ over u (drop p buf))
 back reader writer x u out out′ buf buf′ at end p a s f i e w l o m v =
     let k = few reader writer x out at s i out′ end w in
-    let y = own-back (formOf reader) (formOf writer) (annotated reader writer (k .0)) x u s f i e l in
+    let y = own-back (formOf reader) (formOf writer) (to-annotated reader writer refl (k .0) refl) x u s f i e l in
     let z = fitting-served writer writer u buf p s y buf′ a (known-again reader writer (k .0)) o v (k .1) (rw e at m) in
     rw e z
 

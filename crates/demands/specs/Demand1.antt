@@ -196,7 +196,7 @@ pub record Demand1 : Type 0 where
       → Answers (askRefusals row) (ofSlice a)
   pub surface : (r : Record) (d : Buffers) (b e : ℕ) (a : Slice) → a ≡ surfaceAt (isSheet r d) (spell r d) b e
       → Answers (askRefusals b) (ofSlice a)
-  -- an answered part lies within the slice that it is of
+  -- an answered slice lies within the buffer that it is of
   pub tag-within : (r : Record) (d : Buffers) (row column : ℕ) (a : Slice) (b e : ℕ) → a ≡ tagAt (isSheet r d) (spell r d) row column
       → a ≡ slice.Bytes b e → (b ≤ e) × (e ≤ length (d .tag-bytes-buf))
   pub surface-within : (r : Record) (d : Buffers) (i j : ℕ) (a : Slice) (b e : ℕ) → a ≡ surfaceAt (isSheet r d) (spell r d) i j

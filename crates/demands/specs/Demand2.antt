@@ -1,5 +1,5 @@
 -- Demand 2: on a UTF-8 line of at most 4,096 bytes, given room, what the public functions answer and leave is what document 01's definitions say.
--- The same parts are compared with the Rust by the runs of docs/DIFFERENCES.md ('What was run against the Rust').
+-- The same calls are compared with the Rust by the runs of docs/DIFFERENCES.md ('What was run against the Rust').
 use Prim.Native.Nat.{ℕ, _+_, _-_, _*_, _/_, _%_, _≤_, _<_}
 use mathlib.Core.Path.{_≡_}
 use mathlib.Core.Bool.{true}
@@ -36,7 +36,7 @@ use Rattle.tokens.specs.declared.Next.the-variants as next
 use Rattle.tokens.specs.Steps.{spanOf, stepOf, nextOf, Listed}
 use Rattle.write.specs.Answers.{Written}
 
--- each buffer holds its part of the sentence at its front, and behind it what it held
+-- each buffer holds its list of the sentence at its front, and behind it what it held
 pub record Lies (s : Sentence) (d e : Buffers) : Type 0 where
   pub text-is : e .text-buf ≡ over (encodes (text s)) (d .text-buf)
   pub types-are : e .types-buf ≡ over (map typeOf (text s)) (d .types-buf)
@@ -59,13 +59,13 @@ pub data Writes (f : Form) (r : Record) (d : Buffers) (out : List ℕ) (a : Numb
   too-short : (s : Sentence) → Holds r d s → length out < needed f s → a ≡ number.Refused (refusal 12 (needed f s)) → out′ ≡ out → Writes f r d out a out′
   its-line : (s : Sentence) → Holds r d s → needed f s ≤ length out → a ≡ number.Is (needed f s) → out′ ≡ over (written f s) out → Writes f r d out a out′
 
--- a part of a slice, within it, that is the encoding of these characters
+-- a slice of a buffer, within it, that is the encoding of these characters
 abbrev pub Spells : List ℕ → List ℕ → Slice → Type 0
 Spells cs bytes (slice.Bytes b e) = (b ≤ e) × (e ≤ length bytes) × (take (e - b) (drop b bytes) ≡ encodes cs)
 Spells cs bytes slice.Absent = ⊥
 Spells cs bytes (slice.Refused x) = ⊥
 
--- a tag's part: absent exactly where the tag is empty
+-- a tag's slice: absent exactly where the tag is empty
 abbrev pub Tells : Tag → List ℕ → Slice → Type 0
 Tells [] bytes a = a ≡ slice.Absent
 Tells (c ∷ t) bytes a = Spells (c ∷ t) bytes a

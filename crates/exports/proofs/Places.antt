@@ -12,10 +12,10 @@ use Rattle.sentence.specs.declared.Refusal.{Refusal}
 use Rattle.sentence.specs.Sentence.{Sentence}
 use Rattle.sentence.specs.declared.Form.{Form}
 use Rattle.sentence.specs.declared.Form.the-variants.{Partial as partial}
-use Rattle.sentence.specs.Forms.{formOf}
+use Rattle.sentence.specs.Forms.{formOf, noReader, noWriter}
 use Rattle.sentence.specs.Reading.{Result, sentence, refused, read}
 use Rattle.sentence.specs.Withheld.{trimmed, withheld}
-use Rattle.sentence.specs.Refusals.{refusal, verdict, readerOrder, hostOrder}
+use Rattle.sentence.specs.Refusals.{refusal, verdict, readerOrder, hostOrder, Near}
 use Rattle.sentence.proofs.Withheld.{formed-trimmed}
 use Rattle.sheet.specs.Layout.{Buffers, recordOf, spell, Sheet}
 use Rattle.sheet.specs.Check.{isSheet}
@@ -37,7 +37,7 @@ use Rattle.convert_buffers.specs.declared.Converted.the-variants as converted
 use Rattle.convert.specs.Convert.{unknownForms, outOfRange, conversion}
 use Rattle.convert.proofs.Lengths.{written-small}
 use Rattle.convert.proofs.Codes.{small-place}
-use Rattle.exports.specs.Exports.{Near, noReader, NearAnswer, NearNumber, nearest, nearestIn, NearNext}
+use Rattle.exports.specs.Exports.{NearAnswer, NearNumber, nearest, nearestIn, NearNext}
 
 -- ---- a refusal at 0
 pub near-start : {n : ℕ} {q : Refusal} → q ≡ refusal n 0 → Near q
@@ -45,7 +45,7 @@ near-start e = rw e (omega arith)
 
 -- ---- a reader's: a conversion of the line is refused at the same place
 read-place : (f : ℕ) (x : List ℕ) (n p : ℕ) → noReader f ≡ false → read (formOf f) x ≡ refused n p → p < 2 ^ 32
-unfolding noReader unknownForms outOfRange conversion between hostOrder verdict answerOf outputOf if_then_else_
+unfolding noReader noWriter unknownForms outOfRange conversion between hostOrder verdict answerOf outputOf if_then_else_
 read-place f x n p h e =
     let o : conversion f 1 x 0 0 ≡ refuses (refusal n p) = rw (h, e) in
     small-place f 1 x 0 0 {out = []} {end = []} {q = refusal n p} (record { answer = ap (answerOf 0) (sym o); output = ap (λ (y : Outcome). outputOf 0 y []) (sym o) }) refl

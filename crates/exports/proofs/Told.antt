@@ -2,10 +2,10 @@
 use Prim.Native.Nat.{ℕ, _≤_, _<_}
 use native.Mathlib.Omega.{arith}
 use mathlib.Core.Path.{_≡_, refl, sym, ap, _∙_}
-use mathlib.Core.Bool.{Bool, true, false, not, _||_, false≢true}
+use mathlib.Core.Bool.{Bool, true, false, not}
 use mathlib.Core.List.{List, [], _∷_}
 use borrow.Author.Tests.{lt-ltb, le-ltb, not-false}
-use lib.Dec.{eqb, ltb}
+use lib.Dec.{ltb}
 use lib.ListN.{length, set}
 use Rattle.laws.specs.If.{if_then_else_}
 use Rattle.laws.specs.Put.{over, put-front}
@@ -13,10 +13,9 @@ use Rattle.sentence.specs.declared.Refusal.{Refusal}
 use Rattle.sentence.specs.Sentence.{count}
 use Rattle.sentence.specs.declared.Form.{Form}
 use Rattle.sentence.specs.declared.Form.the-variants.{Raw as raw}
-use Rattle.sentence.specs.Forms.{formOf}
+use Rattle.sentence.specs.Forms.{formOf, noReader, noWriter}
 use Rattle.sentence.specs.Reading.{Annotated, read}
-use Rattle.sentence.specs.Refusals.{refusal, verdict, sheetOrder}
-use Rattle.sentence.proofs.Forms.{is-annotated}
+use Rattle.sentence.specs.Refusals.{refusal, verdict, sheetOrder, refusalCode}
 use Rattle.sheet.specs.Layout.{Buffers, spell}
 use Rattle.sheet.specs.Check.{isSheet}
 use Rattle.sheet.proofs.Exact.{is-sheet}
@@ -35,7 +34,7 @@ use Rattle.tokens.specs.declared.Step.the-variants.{Serves, Done}
 use Rattle.tokens.specs.declared.Next.{Next}
 use Rattle.tokens.specs.declared.Next.the-variants as next
 use Rattle.exports.proofs.Places.{nearest-length}
-use Rattle.exports.specs.Exports.{refusalCode, noReader, numbersOf, readFirst, readCode, readNumbers, ReadTold, hostAnswer, hostLeaves, HostReads, noWriter, hostWriteOrder, numberCode, HostWrites, nearest, nearestIn, HostWithholds, HostKeys, spanned, stepCode, stepSpan, Tells, HostSteps}
+use Rattle.exports.specs.Exports.{numbersOf, readFirst, readCode, readNumbers, ReadTold, hostAnswer, hostLeaves, HostReads, hostWriteOrder, numberCode, HostWrites, nearest, nearestIn, HostWithholds, HostKeys, spanned, stepCode, stepSpan, Tells, HostSteps}
 
 -- ---- reading
 pub stored : (r : Record) (ns : List ℕ) → 5 ≤ length ns → set (set (set (set (set ns 0 (r .n)) 1 (r .b)) 2 (r .columns)) 3 (r .cells)) 4 (r .g) ≡ over (numbersOf r) ns
@@ -88,15 +87,6 @@ module _ (f : Form) (r : Record) (d : Buffers) {out out′ : List ℕ} {a : Numb
 
   pub as-named : {g : Form} → f ≡ g → Written g r d out a out′ → Written f r d out a out′
   as-named e w = rw e w
-
--- a form to write is annotated
-pub annotated : (f : ℕ) {b : Bool} {g : Form} → b ≡ noWriter f → b ≡ false → g ≡ formOf f → Annotated g
-unfolding noWriter
-annotated f i h j = rw j (is-annotated f (first-false (eqb f 0) (ltb 2 f) (sym i ∙ h)))
-  where
-    first-false : (p q : Bool) → (p || q) ≡ false → p ≡ false
-    first-false true q e = absurd (false≢true (sym e))
-    first-false false q e = refl
 
 module _ (f : ℕ) (r : Record) (d : Buffers) (out : List ℕ) {b : Bool} (i : b ≡ noWriter f) where
   pub writes-16 : {c : ℕ} → b ≡ true → c ≡ refusalCode (refusal 16 0) → HostWrites f r d out c out

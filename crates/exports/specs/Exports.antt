@@ -1,16 +1,16 @@
 -- What the host's calls besides the conversion answer as one number, and what they leave in lent memory.
-use Prim.Native.Nat.{ℕ, _<_, _^_}
+use Prim.Native.Nat.{ℕ, _^_}
 use mathlib.Core.Path.{_≡_}
-use mathlib.Core.Bool.{Bool, false, _||_}
+use mathlib.Core.Bool.{false}
 use mathlib.Core.List.{List, [], _∷_}
-use lib.Dec.{eqb, ltb}
+use lib.Dec.{ltb}
 use lib.ListN.{length}
 use Rattle.laws.specs.If.{if_then_else_}
 use Rattle.laws.specs.Put.{over}
 use Rattle.sentence.specs.Sentence.{count}
-use Rattle.sentence.specs.Forms.{formOf}
+use Rattle.sentence.specs.Forms.{noReader, noWriter, formOf}
 use Rattle.sentence.specs.Reading.{read}
-use Rattle.sentence.specs.Refusals.{refusal, Check, check, verdict}
+use Rattle.sentence.specs.Refusals.{refusal, refusalCode, Near, Check, check, verdict}
 use Rattle.sentence.specs.declared.Refusal.{Refusal}
 use Rattle.sheet.specs.Layout.{Buffers, Same, spell}
 use Rattle.sheet.specs.declared.Record.{Record}
@@ -24,22 +24,8 @@ use Rattle.tokens.specs.Steps.{nextOf}
 use Rattle.tokens.specs.declared.Step.the-variants.{Serves, Done}
 use Rattle.tokens.specs.declared.Next.{Next}
 use Rattle.tokens.specs.declared.Next.the-variants as next
-use Rattle.convert_buffers.specs.declared.Converted.the-variants as converted
-use Rattle.convert.specs.Convert.{codeOf}
-
--- a refusal as the host's number, as a conversion has it
-unfoldable pub refusalCode : Refusal → ℕ
-refusalCode r = codeOf (converted.Refused r)
-
--- its place is small, so that the number fits 64 bits
-abbrev pub Near : Refusal → Type 0
-Near q = q .place < 2 ^ 32
 
 -- ---- reading
--- a number above 2 is no form to read
-unfoldable pub noReader : ℕ → Bool
-noReader f = ltb 2 f
-
 -- N, B, columns, cells and G
 unfoldable pub numbersOf : Record → List ℕ
 numbersOf r = r .n ∷ r .b ∷ r .columns ∷ r .cells ∷ r .g ∷ []
@@ -86,10 +72,6 @@ pub record HostReads (f : ℕ) (x : List ℕ) (d : Buffers) (ns : List ℕ) (a :
 -- the record of five numbers
 abbrev pub recordIn : ℕ → ℕ → ℕ → ℕ → ℕ → Record
 recordIn n b columns cells g = record { n = n; b = b; columns = columns; cells = cells; g = g }
-
--- raw is no form to write, nor is a number above 2
-unfoldable pub noWriter : ℕ → Bool
-noWriter f = eqb f 0 || ltb 2 f
 
 -- 16, then what the writer refuses
 unfoldable pub hostWriteOrder : ℕ → Record → Buffers → ℕ → List Check

@@ -3,6 +3,7 @@
 use sentence::Form;
 use sentence::NO_FORM;
 use sentence::Refusal;
+use sentence::unchecked::refusal_code;
 use sheet::Answer;
 use sheet::Number;
 use sheet::Record;
@@ -16,30 +17,8 @@ ghost use Rattle.sentence.specs.Reading.{Annotated};
 ghost use Rattle.sheet.specs.Layout.{lentAfter, lentBefore};
 ghost use Rattle.tokens.specs.declared.Next.the-variants.{Is};
 ghost use Rattle.write.specs.Answers.{Written};
-ghost use Rattle.exports.specs.Exports.{refusalCode, Near, noReader, numbersOf, ReadTold, NearAnswer, HostReads, recordIn, noWriter, numberCode};
+ghost use Rattle.exports.specs.Exports.{numbersOf, ReadTold, NearAnswer, HostReads, recordIn, numberCode};
 ghost use Rattle.exports.specs.Exports.{NearNumber, HostWrites, nearest, nearestIn, HostWithholds, HostKeys, Tells, NearNext, HostSteps};
-
-// A refusal as one number.
-fn code(r: Refusal) -> u64
-    requires { ⌜ Near r ⌝ }
-    ensures { λ a. ⌜ a ≡ refusalCode r ⌝ }
-{
-    9223372036854775808 + 256 * r.place as u64 + r.number as u64
-}
-
-// Whether a number is no form to read.
-fn no_reader(form: u32) -> bool
-    ensures { λ r. ⌜ r ≡ noReader form ⌝ }
-{
-    2 < form
-}
-
-// Whether a number is no form to write.
-fn no_writer(form: u32) -> bool
-    ensures { λ r. ⌜ r ≡ noWriter form ⌝ }
-{
-    (form == 0) | (2 < form)
-}
 
 // Stores what a sentence counts in the first five numbers.
 fn store(r: Record, numbers: &mut [u64])
@@ -59,7 +38,7 @@ fn tell_read(answer: Answer, numbers: &mut [u64]) -> u64
     ensures { λ a. ⌜ ReadTold answer (now (numbers .entry)) a (now (numbers .exit)) ⌝ }
 {
     match answer {
-        Answer::Refused(q) => code(q),
+        Answer::Refused(q) => refusal_code(q),
         Answer::Sentence(r) => {
             store(r, numbers);
             0
@@ -86,11 +65,11 @@ pub extern "C" fn ighdelmur_read(
     ensures { λ a. ⌜ HostReads form (now (line .entry)) (lentBefore text types boundaries «char_pos» «byte_pos» «cell_starts» «cell_lengths» «tag_bytes»)
         (now (numbers .entry)) a (lentAfter text types boundaries «char_pos» «byte_pos» «cell_starts» «cell_lengths» «tag_bytes») (now (numbers .exit)) ⌝ }
 {
-    if no_reader(form) {
-        return code(NO_FORM);
+    if Form::no_reader(form) {
+        return refusal_code(NO_FORM);
     }
     if numbers.len() < 5 {
-        return code(Refusal::outside(0));
+        return refusal_code(Refusal::outside(0));
     }
     let answer = read_load::load(
         Form::of(form),
@@ -162,7 +141,7 @@ fn tell_number(answer: Number) -> u64
 {
     match answer {
         Number::Is(n) => n as u64,
-        Number::Refused(q) => code(q),
+        Number::Refused(q) => refusal_code(q),
     }
 }
 
@@ -188,8 +167,8 @@ pub extern "C" fn ighdelmur_write(
     ensures { λ a. ⌜ HostWrites form (recordIn n b columns cells g)
         (lentBefore text types boundaries «char_pos» «byte_pos» «cell_starts» «cell_lengths» «tag_bytes») (now (out .entry)) a (now (out .exit)) ⌝ }
 {
-    if no_writer(form) {
-        return code(NO_FORM);
+    if Form::no_writer(form) {
+        return refusal_code(NO_FORM);
     }
     let answer = write_as(
         Form::of(form),
@@ -331,7 +310,7 @@ fn tell_step(step: Step, span: &mut [u64]) -> u64
     ensures { λ a. ⌜ Tells (Is step) (now (span .entry)) a (now (span .exit)) ⌝ }
 {
     if span.len() < 2 {
-        return code(Refusal::outside(0));
+        return refusal_code(Refusal::outside(0));
     }
     match step {
         Step::Serves(t) => {
@@ -353,7 +332,7 @@ fn tell_next(next: Next, span: &mut [u64]) -> u64
 {
     match next {
         Next::Is(step) => tell_step(step, span),
-        Next::Refused(q) => code(q),
+        Next::Refused(q) => refusal_code(q),
     }
 }
 

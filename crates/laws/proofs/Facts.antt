@@ -1,9 +1,9 @@
 -- Tests on numbers, read as the facts that they state: `simp reads` turns a test that is true into facts for `omega`,
 -- in the goal or in what it assumes, one case for each `||` that is assumed. Assumes nothing.
 use Prim.Native.Nat.{ℕ, _≤_}
-use mathlib.Core.Path.{_≡_, refl}
+use mathlib.Core.Path.{_≡_, refl, sym}
 use mathlib.Core.Logic.{_↔_, _⊎_, inl, inr, ⊎-elim}
-use mathlib.Core.Bool.{Bool, true, false, _||_, false≢true, and-eq-true-iff}
+use mathlib.Core.Bool.{Bool, true, false, _&&_, _||_, false≢true, and-eq-true-iff}
 use borrow.Author.Tests.{eq-eqb, eqb-true, le-leb, leb-true}
 use lib.Dec.{leb, eqb}
 
@@ -29,3 +29,13 @@ or-is false q = (inr, ⊎-elim (λ e. absurd (false≢true e)) (λ e. e))
 pub untrue : (b : Bool) → (b ≡ true → ⊥) → b ≡ false
 untrue true h = absurd (h refl)
 untrue false h = refl
+
+-- two tests of which neither is true
+pub neither : (p q : Bool) → (p || q) ≡ false → (p ≡ false) × (q ≡ false)
+neither true q h = absurd (false≢true (sym h))
+neither false q h = (refl, h)
+
+-- two tests that are both true
+pub both : (p q : Bool) → (p && q) ≡ true → (p ≡ true) × (q ≡ true)
+both true q h = (refl, h)
+both false q h = absurd (false≢true h)

@@ -10,9 +10,9 @@ use borrow.Author.Tests.{eq-eqb, ne-eqb, le-ltb, leb-false, not-false}
 use lib.Dec.{leb}
 use lib.ListN.{length, getD, take}
 use Rattle.laws.specs.If.{if_then_else_}
-use Rattle.laws.proofs.Facts.{or-is}
+use Rattle.laws.proofs.Facts.{or-is, neither}
 use Rattle.utf8.specs.Utf8.{size}
-use Rattle.utf8.proofs.Codec.{width-small}
+use Rattle.utf8.proofs.Codec.{no-bytes}
 use Rattle.sentence.specs.Sentence.{Tag, Sentence, text, rows, charPositions, bytePositions}
 use Rattle.sentence.specs.Refusals.{verdict}
 use Rattle.sheet.specs.Layout.{Buffers, Holds}
@@ -21,7 +21,7 @@ use Rattle.sheet.specs.declared.Number.{Number}
 use Rattle.sheet.specs.declared.Number.the-variants as number
 use Rattle.sheet.specs.declared.Slice.the-variants as slice
 use Rattle.sheet.proofs.Held.{length-starts, byte-pos-held}
-use Rattle.sheet.proofs.Look.{prefix-at, neither, start-is, bounds, char-pos-is, byte-pos-is, byte-pos-small, cell-start-is, cell-length-is, cell-fits, cell-in-row, cell-at}
+use Rattle.sheet.proofs.Look.{prefix-at, start-is, bounds, char-pos-is, byte-pos-is, byte-pos-small, cell-start-is, cell-length-is, cell-fits, cell-in-row, cell-at}
 use Rattle.lookups.specs.Answers.{startAt, found, strToCharPos, cellStart, tagSlice, cell}
 
 -- ---- a cell that is in the table
@@ -45,11 +45,6 @@ found-none [] p h = refl
 found-none (q ∷ l) p h = rw (ne-eqb p q (λ e. h 0 (omega arith) (sym e))) (found-none l p (λ i k e. h (suc i) (omega arith) e))
 
 -- ---- a tag that takes no bytes is absent
-no-bytes : (t : Tag) → size t ≡ 0 → t ≡ []
-unfolding size
-no-bytes [] h = refl
-no-bytes (c ∷ t) h = absurd (omega (arith, width-small c))
-
 tag-empty : (at : ℕ) (t : Tag) → t ≡ [] → slice.Absent ≡ tagSlice at t
 unfolding tagSlice
 tag-empty at t e = rw e

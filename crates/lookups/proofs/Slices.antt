@@ -1,4 +1,4 @@
--- What the answered parts are: a surface's bytes, and those of a cell of Rust's padded table; each lies within its buffer; positions lead back. Assumes nothing.
+-- What the answered slices are: a surface's bytes, and those of a cell of Rust's padded table; each lies within its buffer; positions lead back. Assumes nothing.
 use Prim.Native.Nat.{ℕ, zero, suc, _+_, _-_, _*_, _≤_, _<_}
 use native.Mathlib.Omega.{arith}
 use mathlib.Core.Path.{_≡_, refl, sym, _∙_}
@@ -8,6 +8,7 @@ use borrow.Author.Tests.{le-ltb, leb-false, ltb-false, not-false}
 use lib.Dec.{leb, ltb}
 use lib.ListN.{length, take, drop, getD}
 use Rattle.laws.specs.If.{if_then_else_}
+use Rattle.laws.proofs.Facts.{neither}
 use Rattle.utf8.specs.Utf8.{encodes, size}
 use Rattle.sentence.specs.declared.Refusal.{Refusal}
 use Rattle.sentence.specs.Sentence.{Tag, Sentence, text, rows, count, charPositions, bytePositions, pad, table}
@@ -17,11 +18,11 @@ use Rattle.sheet.specs.declared.Record.{Record}
 use Rattle.sheet.specs.declared.Number.the-variants as number
 use Rattle.sheet.specs.declared.Slice.{Slice}
 use Rattle.sheet.specs.declared.Slice.the-variants as slice
-use Rattle.sheet.specs.Layout.{Buffers, buffers, Holds, spell}
+use Rattle.sheet.specs.Layout.{Buffers, Holds, spell}
 use Rattle.sheet.specs.Check.{isSheet}
 use Rattle.sheet.proofs.Held.{length-starts}
 use Rattle.sheet.proofs.Exact.{is-sheet}
-use Rattle.sheet.proofs.Look.{start-is, number-is, bounds, bytes-before, bytes-more, text-stretch, pad-at, cell-stretch, cell-inside, cell-next, cell-fits, cell-in-row, cell-at, neither, passed}
+use Rattle.sheet.proofs.Look.{start-is, number-is, bounds, bytes-before, bytes-more, text-stretch, pad-at, cell-stretch, cell-inside, cell-next, cell-fits, cell-in-row, cell-at, passed}
 use Rattle.lookups.specs.Answers.{startAt, strToCharPos, surfaceSlice, surfaceAt, cell, cellStart, tagSlice, tagAt}
 use Rattle.lookups.proofs.Laws.{found-at, start-sized}
 
@@ -75,7 +76,7 @@ module _ {r : Record} {d : Buffers} {s : Sentence} (h : Holds r d s) where
       let m = cell-inside h (j + 1) in
       (rw (← b, ← t) (omega (arith, bounds h)), rw (← b, ← t) (cell-stretch h j i))
 
--- ---- an answered part lies within its buffer
+-- ---- an answered slice lies within its buffer
 apart : (p q : ℕ) (x : Refusal) → slice.Refused x ≡ slice.Bytes p q → ⊥
 apart p q x e = let z : _≡_ {A = ℕ} 0 1 = cc in omega arith
 
@@ -108,19 +109,3 @@ tag-within r d row column a p q f g =
     let z = tag-bounds (cellStart (rows s) row column) (cell s row column) p q (k .1) in
     let i = cell-here h row column (omega (arith, leb-false (count s) row (o .0), bounds h)) (omega (arith, leb-false (s .columns) column (o .1), bounds h)) .0 in
     (omega (arith, z .0, z .1), omega (arith, z .1))
-
--- the same for a caller that holds the eight slices, fact by fact
-module _ (r : Record) (ts ys ms cs bs rs es gs : List ℕ) (i j : ℕ) (a : Slice) (p q : ℕ) where
-  pub surface-ordered : a ≡ surfaceAt (isSheet r (buffers ts ys ms cs bs rs es gs)) (spell r (buffers ts ys ms cs bs rs es gs)) i j → a ≡ slice.Bytes p q → p ≤ q
-  surface-ordered f g = surface-within r (buffers ts ys ms cs bs rs es gs) i j a p q f g .0
-
-  pub surface-inside : a ≡ surfaceAt (isSheet r (buffers ts ys ms cs bs rs es gs)) (spell r (buffers ts ys ms cs bs rs es gs)) i j → a ≡ slice.Bytes p q → q ≤ length ts
-  surface-inside f g = surface-within r (buffers ts ys ms cs bs rs es gs) i j a p q f g .1
-
-  pub tag-ordered : a ≡ tagAt (isSheet r (buffers ts ys ms cs bs rs es gs)) (spell r (buffers ts ys ms cs bs rs es gs)) i j → a ≡ slice.Bytes p q → p ≤ q
-  tag-ordered f g = tag-within r (buffers ts ys ms cs bs rs es gs) i j a p q f g .0
-
-  pub tag-inside-bytes : a ≡ tagAt (isSheet r (buffers ts ys ms cs bs rs es gs)) (spell r (buffers ts ys ms cs bs rs es gs)) i j → a ≡ slice.Bytes p q → q ≤ length gs
-  tag-inside-bytes f g = tag-within r (buffers ts ys ms cs bs rs es gs) i j a p q f g .1
-
-pub ruleset parts = (surface-ordered, surface-inside, tag-ordered, tag-inside-bytes)

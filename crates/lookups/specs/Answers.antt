@@ -47,7 +47,7 @@ cell s row column = getD (getD (rows s) row []) column []
 unfoldable pub cellStart : List (List Tag) → ℕ → ℕ → ℕ
 cellStart rs row column = tagBytes (take row rs) + rowBytes (take column (getD rs row []))
 
--- the part of a tag that starts at a byte; an absent one has none
+-- the slice of a tag that starts at a byte; an absent one has none
 unfoldable pub tagSlice : ℕ → Tag → Slice
 tagSlice at [] = slice.Absent
 tagSlice at (c ∷ t) = slice.Bytes at (at + size (c ∷ t))

@@ -151,7 +151,7 @@ pub fn boundary(
     Number::Is(m)
 }
 
-// The part of a cell's tag in the tag bytes.
+// The slice of a cell's tag in the tag bytes.
 pub fn tag(
     r: Record,
     text: &[u8],
@@ -199,7 +199,7 @@ pub fn tag(
     )
 }
 
-// The part of the text from one character up to another.
+// The slice of the text from one character up to another.
 pub fn surface(
     r: Record,
     text: &[u8],

@@ -71,7 +71,7 @@ pub fn boundary(
     boundaries[i] as usize
 }
 
-// The part of a tag.
+// The slice of a tag.
 pub fn tag(
     r: Record,
     text: &[u8],
@@ -104,7 +104,7 @@ pub fn tag(
     }
 }
 
-// The part of a surface.
+// The slice of a surface.
 pub fn surface(
     r: Record,
     text: &[u8],

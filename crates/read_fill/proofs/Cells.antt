@@ -39,7 +39,7 @@ module _ (f : ℕ → ℕ → ℕ) where
   values-absent (suc j) g ts = rw (add-zero, values-absent j g ts)
 
   module _ (c : ℕ) where
-    -- the part that has them
+    -- the rows that have them
     unfoldable pub cellStore : Store
     cellStore = record { index = place c; emit = λ a k. cellsAt c (f (k .g - k .long) (k .long)) (f (k .g) 0) a k; last = λ k. rowCells c (f (k .g - k .long) (k .long)) (f (k .g) 0) k }
 

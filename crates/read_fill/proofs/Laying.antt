@@ -1,6 +1,6 @@
--- What the loop over a line keeps: its acts that are left store what is left of each part. Assumes nothing.
+-- What the loop over a line keeps: its acts that are left store what is left of each buffer. Assumes nothing.
 use Prim.Native.Nat.{ℕ, _+_, _≤_, _<_}
-use mathlib.Core.Path.{_≡_, refl, sym, ap, subst, _∙_}
+use mathlib.Core.Path.{_≡_, refl, sym, subst, _∙_}
 use mathlib.Core.Bool.{Bool, true, false}
 use mathlib.Core.List.{List, [], _∷_}
 use native.Mathlib.Omega.{arith}
@@ -8,11 +8,11 @@ use borrow.Author.Tests.{ltb-false}
 use lib.Dec.{ltb}
 use lib.ListN.{length, take, drop, drop-of-length-le}
 use Rattle.laws.specs.If.{if_then_else_}
-use Rattle.utf8.specs.Utf8.{encode, width, size, decodeAt, walk, validPrefix, values, scalars, isChar}
+use Rattle.utf8.specs.Utf8.{encode, size, decodeAt, walk, validPrefix, values, scalars, isChar}
 use Rattle.utf8.specs.declared.Decoded.{Decoded}
 use Rattle.utf8.specs.declared.Decoded.the-variants.{Char, Bad, End}
 use Rattle.utf8.proofs.Codec.{encode-decode, valid-within}
-use Rattle.utf8.proofs.Laws.{Passed, len-ok, width-at, char-within, chars-char, passed-char, passed-bad, end-past}
+use Rattle.utf8.proofs.Laws.{Passed, len-ok, width-at, char-within, passed-char, passed-bad, end-past, left-char}
 use Rattle.sentence.specs.Sentence.{Sentence, Formed}
 use Rattle.sentence.specs.declared.Form.{Form}
 use Rattle.sentence.specs.Reading.{Place, at, start, behind, inTag, gap, escaped, Act, skip, letter, opens, ofTag, Step, go, stop, advance, Run, whole, stopped, ending, finish, push, follow, run, gather, Result, sentence, refused, built, placed, read}
@@ -29,6 +29,7 @@ use Rattle.read_state.proofs.Advances.{advance-of, Goes, advanced}
 use Rattle.read_counts.specs.declared.Counts.{Counts}
 use Rattle.read_counts.specs.Counts.{Small, nothing, bytes, tallyBy, tally}
 use Rattle.read_counts.proofs.Bounds.{nothing-small, small-more, tally-small}
+use Rattle.read_counts.proofs.Spans.{Span, span, tally-width}
 use Rattle.read_stores.specs.Stores.{Store, Stored, Bytes, Turning, Finishing, Finished}
 use Rattle.read_fill.specs.Fill.{Fits, filled}
 use Rattle.read_fill.proofs.Going.{emitted, Goings, roomy, goings-start, goings-narrow, goings-room, goings-turn, goings-finish, goings-done}
@@ -96,21 +97,7 @@ lay-start f c x σ k d = on (read f x) refl
         }
     on (refused n q) e h i j = absurd h
 
--- a character's bytes, where it stands
-pub record Span (x : List ℕ) (p n : ℕ) : Type 0 where
-  pub some : 1 ≤ n
-  pub few : n ≤ 4
-  pub fits : p + n ≤ length x
-  pub short : length x ≤ 4096
-
 -- ---- a character
-tally-width : (a : Act) (c : ℕ) (k : Counts) → ActOf c a → tallyBy (width c) a k ≡ tally a k
-unfolding tally tallyBy bytes
-tally-width skip c k e = refl
-tally-width (letter m d) c k e = rw e
-tally-width opens c k e = refl
-tally-width (ofTag d) c k e = rw e
-
 act-bytes : (a : Act) (c : ℕ) (y : List ℕ) → ActOf c a → y ≡ encode c → Bytes a y
 act-bytes skip c y e h = tt
 act-bytes (letter m d) c y e h = h ∙ rw e
@@ -127,10 +114,6 @@ went : (a : Act) (r : Run) (l : List Act) → push a r ≡ whole l → Went a r 
 unfolding push
 went a (whole m) l e = record { rest = m; runs = refl; is = cc }
 went a (stopped n left) l e = let z : _≡_ {A = ℕ} 0 1 = cc in absurd (omega arith)
-
-left-char : (x : List ℕ) (p v n : ℕ) → decodeAt x p ≡ Char v n → scalars (drop p x) ≡ v ∷ scalars (drop (p + n) x)
-unfolding values
-left-char x p v n e = ap values (chars-char x p v n e)
 
 module _ {f : Form} {c : ℕ} {x : List ℕ} {σ : State} {k : Counts} {p : ℕ} {d₀ d : Buffers} (h : Laying f c x σ k p d₀ d) where
   lay-formed : Formed (h .s)
@@ -150,7 +133,7 @@ module _ {f : Form} {c : ℕ} {x : List ℕ} {σ : State} {k : Counts} {p : ℕ}
   lay-small = small-more p 4096 k (omega (arith, h .short, h .within)) (h .small)
 
   pub lay-span : {v n : ℕ} → decodeAt x p ≡ Char v n → Span x p n
-  lay-span {v} {n} q = record { some = len-ok x p v n q .0; few = len-ok x p v n q .1; fits = char-within x p v n (h .within) q; short = h .short }
+  lay-span {v} {n} q = span x p v n (h .within) (h .short) q
 
   module _ {v n : ℕ} (q : decodeAt x p ≡ Char v n) where
     -- it is not refused

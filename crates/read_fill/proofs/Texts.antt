@@ -19,7 +19,7 @@ use Rattle.read_fill.specs.Emits.{emits}
 unfoldable pub restOf : Parsed → Rest
 restOf (parsed t ts n r) = r
 
--- ---- a part that a line stores in at its text alone, by what is left of that and how much was read
+-- ---- a buffer that a line stores in at its text alone, by what is left of that and how much was read
 -- the first counts are those of characters and bytes
 unfoldable pub reads : Counts → ℕ × ℕ
 reads k = (k .n, k .b)
@@ -29,7 +29,7 @@ unfolding grows reads
 grows-reads true w k = refl
 grows-reads false w k = refl
 
--- what a part stores at a character, and at the end, by how much was read; and the same of a whole rest
+-- what is stored at a character, and at the end, by how much was read; and the same of a whole rest
 module _ (p : Store) (at : ℕ × ℕ → Mark → ℕ → List ℕ) (end : ℕ × ℕ → List ℕ) (all : ℕ × ℕ → Rest → List ℕ)
     (emit-is : (a : Act) (k : Counts) → p .emit a k ≡ onLetter (at (reads k)) a)
     (last-is : (k : Counts) → p .last k ≡ end (reads k))

@@ -1,4 +1,4 @@
--- All that a line's acts store in a part, from counts on.
+-- All that a line's acts store in one buffer, from counts on.
 use mathlib.Core.List.{List, [], _∷_, _++_}
 use Prim.Native.Nat.{ℕ}
 use Rattle.sentence.specs.Reading.{Act}

@@ -7,6 +7,7 @@ use native.Mathlib.Omega.{arith}
 use borrow.Author.Tests.{not-false}
 use lib.ListN.{length}
 use Rattle.laws.specs.If.{if_then_else_}
+use Rattle.utf8.proofs.Codec.{size-long}
 use Rattle.sentence.specs.Sentence.{Sentence, text}
 use Rattle.sentence.specs.declared.Form.{Form}
 use Rattle.sentence.specs.Reading.{Result, sentence, refused, read}
@@ -17,7 +18,6 @@ use Rattle.sheet.specs.Eight.{each}
 use Rattle.sheet.specs.Layout.{Buffers, Same, recordOf, takes, enough, roomFor, laid}
 use Rattle.sheet.proofs.Eights.{same-self}
 use Rattle.sheet.proofs.Held.{length-marks}
-use Rattle.sheet.proofs.Held.{some-bytes}
 use Rattle.sheet.specs.declared.Answer.{Answer}
 use Rattle.sheet.specs.declared.Answer.the-variants as answer
 use Rattle.sheet.specs.declared.Record.{Record}
@@ -50,7 +50,7 @@ unfolding recordOf
 read-small f x a r e i =
     let g = found (read f x) a r e i in
     let h = read-formed f x (g .s) (g .is) .0 in
-    rw (g .counts) (omega (arith, length-marks (g .s .cells), some-bytes (text (g .s)), h .text-fits))
+    rw (g .counts) (omega (arith, length-marks (g .s .cells), size-long (text (g .s)), h .text-fits))
 
 -- ---- a reader
 pub read-refused : (x : Result) (d : Buffers) (a : Answer) (q : Refusal) → a ≡ scanned x → a ≡ answer.Refused q → ReadDoes x d (answer.Refused q) d

@@ -8,16 +8,16 @@ use borrow.Author.Tests.{lt-ltb, le-ltb, ltb-false}
 use lib.Dec.{ltb}
 use lib.ListN.{length, drop}
 use Rattle.laws.specs.If.{if_then_else_, if-true, if-false, if-map}
-use Rattle.utf8.specs.Utf8.{width, size, decodeAt, validPrefix, values, scalars}
+use Rattle.utf8.specs.Utf8.{size, decodeAt, validPrefix, values, scalars}
 use Rattle.utf8.specs.declared.Decoded.{Decoded}
 use Rattle.utf8.specs.declared.Decoded.the-variants.{Char, Bad, End}
-use Rattle.utf8.proofs.Laws.{Passed, len-ok, width-at, chars-char, chars-end, passed-char, passed-bad, passed-end, end-past, bad-inside, char-within}
+use Rattle.utf8.proofs.Laws.{Passed, len-ok, width-at, chars-end, passed-char, passed-bad, passed-end, end-past, bad-inside, char-within, left-char}
 use Rattle.sentence.specs.Sentence.{Sentence}
 use Rattle.sentence.specs.Reading as reading
 use Rattle.sentence.specs.declared.Form.{Form}
-use Rattle.sentence.specs.Reading.{Place, at, escaped, start, behind, inTag, gap, Act, skip, letter, opens, ofTag, go, stop, advance, Run, whole, stopped, ending, finish, push, follow, run, over, next, Parsed, parsed, gather, sentence, built, placed, read}
+use Rattle.sentence.specs.Reading.{Place, at, escaped, start, behind, inTag, gap, Act, go, stop, advance, Run, whole, stopped, ending, finish, push, follow, run, over, next, Parsed, parsed, gather, sentence, built, placed, read}
 use Rattle.sentence.specs.Refusals.{refusal}
-use Rattle.sentence.proofs.Shape.{ActOf, StepOf}
+use Rattle.sentence.proofs.Shape.{StepOf}
 use Rattle.sheet.specs.Layout.{recordOf}
 use Rattle.sheet.specs.declared.Answer.{Answer}
 use Rattle.sheet.specs.declared.Answer.the-variants as answer
@@ -30,10 +30,11 @@ use Rattle.read_state.specs.Flags.{stateOf, flags, actOf, stepped, ended}
 use Rattle.read_state.proofs.Enums.{state-back}
 use Rattle.read_state.proofs.Advances.{advance-of, advanced-by-number, refused-by-number}
 use Rattle.read_counts.specs.declared.Counts.{Counts}
-use Rattle.read_counts.specs.Counts.{Small, nothing, bytes, tallyBy, tally, tallies, counted}
+use Rattle.read_counts.specs.Counts.{Small, nothing, tallyBy, tally, tallies, counted}
 use Rattle.read_counts.proofs.Bounds.{nothing-small, small-more, tally-small}
 use Rattle.read_counts.proofs.Rests.{Fresh, run-fresh}
 use Rattle.read_counts.proofs.Totals.{counted-is}
+use Rattle.read_counts.proofs.Spans.{Span, span, tally-width}
 use Rattle.read_scan.specs.Scan.{scanned, told, orInvalid}
 use Rattle.read_scan.proofs.Prefixes.{left-size}
 
@@ -42,13 +43,6 @@ told-push : (n : ℕ) (k : Counts) (a : Act) (r : Run) → told n k (push a r) �
 unfolding told push tallies
 told-push n k a (whole l) = refl
 told-push n k a (stopped e left) = refl
-
-tally-width : (a : Act) (c : ℕ) (k : Counts) → ActOf c a → tallyBy (width c) a k ≡ tally a k
-unfolding tally tallyBy bytes
-tally-width skip c k e = refl
-tally-width (letter m d) c k e = rw e
-tally-width opens c k e = refl
-tally-width (ofTag d) c k e = rw e
 
 -- ---- what is told from the start is what is read
 told-built : (p : Parsed) (r : Record) → Fresh p → ((s : Sentence) → built p ≡ sentence s → r ≡ recordOf s) → answer.Sentence r ≡ scanned (built p)
@@ -101,24 +95,10 @@ scan-start f x s k h e g = record {
   same = rw (e, g, state-back (at start));
 }
 
--- the characters that are left, one at a time
-left-char : (x : List ℕ) (p v n : ℕ) → decodeAt x p ≡ Char v n → scalars (drop p x) ≡ v ∷ scalars (drop (p + n) x)
-unfolding values
-left-char x p v n e = ap values (chars-char x p v n e)
-
--- a character's bytes, where it stands
-pub record Stands (x : List ℕ) (p n : ℕ) : Type 0 where
-  pub some : 1 ≤ n
-  pub few : n ≤ 4
-  pub fits : p + n ≤ length x
-  pub short : length x ≤ 4096
-
 module _ {f : Form} {x : List ℕ} {s : State} {k : Counts} {p : ℕ} (h : Scanning f x s k p) where
   -- the premises are as the loop has them
-  pub stands : {d : Decoded} {v n : ℕ} → d ≡ decodeAt x p → d ≡ Char v n → Stands x p n
-  stands {d} {v} {n} d₁ d₂ =
-      let q : decodeAt x p ≡ Char v n = sym d₁ ∙ d₂ in
-      record { some = len-ok x p v n q .0; few = len-ok x p v n q .1; fits = char-within x p v n (h .within) q; short = h .short }
+  pub stands : {d : Decoded} {v n : ℕ} → d ≡ decodeAt x p → d ≡ Char v n → Span x p n
+  stands {d} {v} {n} d₁ d₂ = span x p v n (h .within) (h .short) (sym d₁ ∙ d₂)
 
   -- a character that steps the reader
   pub scan-go : {d : Decoded} {v n : ℕ} {g : Stepped} {k′ : Counts}

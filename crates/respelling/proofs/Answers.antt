@@ -1,4 +1,4 @@
--- A printed answer, put into a slice part by part. Assumes nothing.
+-- A printed answer, put into a slice sign by sign. Assumes nothing.
 use Prim.Native.Nat.{ℕ, _+_, _-_, _≤_, _<_}
 use native.Mathlib.Omega.{arith}
 use mathlib.Core.Path.{_≡_, refl, sym, ap, _∙_}
@@ -107,7 +107,7 @@ letters [] h = absurd (omega arith)
 letters (a ∷ []) h = absurd (omega arith)
 letters (a ∷ b ∷ x) h = refl
 
--- two letters and a sentence line, which is lent as a part
+-- two letters and a sentence line, which is lent as a slice
 pub put-letters : (l : List ℕ) (f g : ℕ) {out end : List ℕ} {at e : ℕ} → 2 ≤ length l → f ≡ letter (getD l 0 0) → g ≡ letter (getD l 1 0)
     → Puts (printed (conversion f g (take (length l - 2) (drop 2 l)) 8192 0)) out at e end → Puts (answer l) out at e end
 put-letters l f g h i j p = rw (letters l h) (rw (i, j, lent l 2 h) at p)

@@ -52,7 +52,7 @@ module _ (s : Stand) (c : Call) where
   unfolding afterWrite
   write-moved e = sym (if-false _ _ _ e)
 
--- ---- a part of a buffer
+-- ---- a slice of a buffer
 -- what is lent from one place up to another
 pub between : (from to : ℕ) (l : List ℕ) → take (to - from) (drop from l) ≡ drop from (take to l)
 between zero to l = rw sub-zero

@@ -1,4 +1,4 @@
--- Bytes put into a slice, one part behind another. Assumes nothing.
+-- Bytes put into a slice, some behind others. Assumes nothing.
 use Prim.Native.Nat.{ℕ, _+_, _-_, _≤_, _<_}
 use native.Mathlib.Omega.{arith}
 use native.Mathlib.Numerals.{add-one}
@@ -15,7 +15,7 @@ puts-none d at = record { end = omega arith; output = rw take-append-drop }
 pub puts-byte : (d : List ℕ) (at b : ℕ) → at < length d → Puts (b ∷ []) d at (at + 1) (set d at b)
 puts-byte d at b h = record { end = refl; output = set-split d at b h ∙ rw (drop-drop, add-one) }
 
--- bytes that a callee put at the front of a part of k bytes that it was lent
+-- bytes that a callee put at the front of a slice of k bytes that it was lent
 pub puts-lent : (v d : List ℕ) (s k : ℕ) {e : List ℕ} → e ≡ over v (take k (drop s d)) → length v ≤ k → s + k ≤ length d
     → Puts v d s (s + length v) (take s d ++ (e ++ drop k (drop s d)))
 puts-lent v d s k {e} q l h =
@@ -38,7 +38,7 @@ module _ {w d : List ℕ} {at r : ℕ} {m : List ℕ} (p : Puts w d at r m) (h :
   joint : m ≡ (take at d ++ w) ++ drop (length w) (drop at d)
   joint = p .output ∙ sym (append-assoc (take at d) w (drop (length w) (drop at d)))
 
-  -- one part behind another
+  -- bytes behind bytes
   pub puts-then : {v e : List ℕ} {k : ℕ} → Puts v m r k e → Puts (w ++ v) d at k e
   puts-then {v} q = record {
     end = omega (arith, p .end, q .end, length-append w v);

@@ -8,6 +8,7 @@ use borrow.Author.Tests.{eqb-true, ltb-false}
 use lib.Dec.{eqb}
 use lib.ListN.{length, take, drop, take-append-drop}
 use Rattle.laws.specs.If.{if-cases}
+use Rattle.laws.proofs.Facts.{neither}
 use Rattle.respelling.specs.Respell.{respell}
 use Rattle.respelling.specs.Stream.{Done, turn}
 use Rattle.respelling.specs.Run.{State, begins, answers, reads, writes, fails, isDue, calls, goes, Move, by-answer, by-read, by-write, by-nothing, by-failure, Run, start, moves}
@@ -26,10 +27,6 @@ empty (b ∷ l) h = absurd (omega arith)
 pub none-due : (a : State) → isDue a ≡ false → a .due ≡ []
 unfolding isDue
 none-due a e = empty (a .due) (omega (arith, ltb-false 0 (length (a .due)) e))
-
-pub neither : (b c : Bool) → (b || c) ≡ false → b ≡ false
-neither true c e = e
-neither false c e = refl
 
 -- ---- the lines that can be answered are answered
 module _ (room : ℕ) (h : 8194 ≤ room) (a : State) where
@@ -58,7 +55,7 @@ module _ (room : ℕ) (h : 8194 ≤ room) (a : State) where
   unfolding calls answers made
   owes-answer {x} {w} o c = record {
     whole = λ y e.
-        o .whole y e ∙ rw (none-due a (neither (isDue a) (a .waits) c)) (ap (λ l. w ++ l) (continues (a .ended) room (a .held) y e ∙ ap (λ l. made .prints ++ l) (sym (left-same y))));
+        o .whole y e ∙ rw (none-due a (neither (isDue a) (a .waits) c .0)) (ap (λ l. w ++ l) (continues (a .ended) room (a .held) y e ∙ ap (λ l. made .prints ++ l) (sym (left-same y))));
     rest = left-none;
   }
 

@@ -148,7 +148,7 @@ module _ (s : Stand) (input out : List ℕ) (k : Stands s input out) where
       (λ _. wrote-so (p .call .moved) d (p .within)))
 
 -- ---- reading
--- what a call put into a part that begins at a place
+-- what a call put into a slice that begins at a place
 module _ (at : ℕ) (d e : List ℕ) where
   abbrev after-call : List ℕ
   after-call = take at d ++ (e ++ drop (length d - at) (drop at d))

@@ -9,13 +9,14 @@ use lib.Dec.{eqb, ltb}
 use lib.ListN.{length, take, drop, take-append-drop}
 use lib.Seq.{drop-drop}
 use Rattle.laws.specs.If.{if_then_else_, if-true, if-false, if-cases}
+use Rattle.laws.proofs.Facts.{neither}
 use Rattle.respelling.specs.Respell.{before, lines, answers, respell, fed, whole}
 use Rattle.respelling.specs.Stream.{lineLen, Done, step, andThen, steps, turn}
 use Rattle.respelling.specs.Run.{State, begins, reads, writes, fails, isDue, calls, Move, by-answer, by-read, by-write, by-nothing, by-failure, Run, start, moves}
 use Rattle.respelling.specs.Run as run
 use Rattle.respelling.proofs.Lines.{len-feed, len-byte, lines-feed, lines-byte}
 use Rattle.respelling.proofs.Pieces.{turn-waits, open-front}
-use Rattle.respelling.proofs.Runs.{Owes, owes, none-due, neither, more-written}
+use Rattle.respelling.proofs.Runs.{Owes, owes, none-due, more-written}
 
 -- ---- the bytes up to the last LF
 whole-fed : (b : ℕ) (s : List ℕ) → fed (b ∷ s) ≡ true → whole (b ∷ s) ≡ b ∷ whole s
@@ -141,7 +142,7 @@ unfolding calls run.answers made
 only-answer room h {x} {w} a o c = record {
   so-far = λ f.
       o .so-far f
-      ∙ rw (none-due a (neither (isDue a) (a .waits) c))
+      ∙ rw (none-due a (neither (isDue a) (a .waits) c .0))
       (ap (λ l. w ++ l) (turn-keeps room (a .held) ∙ rw (prints-are room h a f, left-whole room h a f) refl));
 }
 

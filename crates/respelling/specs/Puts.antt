@@ -12,7 +12,7 @@ pub record Puts (w d : List ℕ) (at r : ℕ) (d′ : List ℕ) : Type 0 where
   pub end : r ≡ at + length w
   pub output : d′ ≡ take at d ++ over w (drop at d)
 
--- the answer r to a conversion into a part that begins at `start`, which counts from there, and the whole after it
+-- the answer r to a conversion into a slice that begins at `start`, which counts from there, and the whole after it
 pub record Into (o : Outcome) (d : List ℕ) (start : ℕ) (r : Converted) (d′ : List ℕ) : Type 0 where
   pub answer : r ≡ answerOf 0 o
   pub output : d′ ≡ outputOf start o d

@@ -1,4 +1,4 @@
--- The reader over what a writer writes, piece by piece: what a run gathers. Assumes nothing.
+-- The reader over what a writer writes, token by token and character by character: what a run gathers. Assumes nothing.
 use Prim.Native.Nat.{ℕ, zero, max}
 use mathlib.Core.Path.{_≡_, refl, _∙_}
 use mathlib.Core.Bool.{true, false}

@@ -2,7 +2,7 @@
 use Prim.Native.Nat.{ℕ, zero, suc, _+_, _≤_, _<_}
 use mathlib.Core.Path.{_≡_, refl, sym, ap, subst, _∙_}
 use mathlib.Core.Logic.{_↔_}
-use mathlib.Core.Bool.{Bool, true, false, _&&_, _||_, false≢true}
+use mathlib.Core.Bool.{Bool, true, false, _&&_, false≢true}
 use mathlib.Core.List.{List, [], _∷_}
 use native.Mathlib.Nat.{add-zero, zero-add}
 use native.Mathlib.Omega.{arith}
@@ -11,6 +11,7 @@ use borrow.Author.Tests.{le-ltb, lt-ltb, le-leb, lt-leb, leb-true, leb-false, lt
 use lib.ListN.{length, getD}
 use Rattle.laws.specs.If.{if_then_else_, if-true, if-false}
 use Rattle.laws.specs.All.{All}
+use Rattle.laws.proofs.Facts.{neither}
 use Rattle.utf8.specs.Utf8.{validPrefix, scalar, encodes}
 use Rattle.utf8.proofs.Codec.{length-encodes, scalars-encodes, valid-encodes}
 use Rattle.sentence.specs.Sentence.{Tag, Mark, none, unknown, Cells, final, cell, Sentence, textOf, marksOf, rowsOf, text, marks, count, onto, cut, rowBytes, tagBytes, Row, CellsOf, Formed}
@@ -280,10 +281,6 @@ copies-told-apart b e s t f g = (
 )
 
 -- ---- withholding a range and then one that holds it
-either : (p q : Bool) → (p || q) ≡ false → (p ≡ false) × (q ≡ false)
-either true q h = absurd (false≢true (sym h))
-either false q h = (refl, h)
-
 -- every character of the range b..e is one of c..f
 module _ (b e c f : ℕ) (h : (i : ℕ) → inRange b e i ≡ true → inRange c f i ≡ true) where
   not-in : (i : ℕ) → inRange c f i ≡ false → inRange b e i ≡ false
@@ -295,7 +292,7 @@ module _ (b e c f : ℕ) (h : (i : ℕ) → inRange b e i ≡ true → inRange c
 
   not-touched : (i : ℕ) → touches c f i ≡ false → touches b e i ≡ false
   unfolding touches
-  not-touched i k = let z = either (inRange c f i) (inRange c f (i + 1)) k in rw (not-in i (z .0), not-in (i + 1) (z .1))
+  not-touched i k = let z = neither (inRange c f i) (inRange c f (i + 1)) k in rw (not-in i (z .0), not-in (i + 1) (z .1))
 
   wider : (s t : Sentence) → Outside b e s t → Outside c f s t
   wider s t o = record { texts = o .texts; boundaries = λ i k. o .boundaries i (not-touched i k); tags = λ i j k. o .tags i j (not-in i k) }

@@ -2,7 +2,8 @@
 use Prim.Native.Nat.{ℕ, zero, suc}
 use Prim.Native.Char.{code as chr}
 use mathlib.Core.Path.{_≡_, refl}
-use lib.Dec.{eqb}
+use mathlib.Core.Bool.{Bool, _||_}
+use lib.Dec.{eqb, ltb}
 use Rattle.laws.specs.If.{if_then_else_}
 use Rattle.sentence.specs.declared.Form.{Form}
 use Rattle.sentence.specs.declared.Form.the-variants.{Raw as raw, Tokenized as tokenized, Partial as partial}
@@ -19,7 +20,15 @@ letterOf raw = chr "R"
 letterOf tokenized = chr "T"
 letterOf partial = chr "P"
 
--- the form of a number; a call refuses a number above 2 before
+-- a number above 2 is no form
+unfoldable pub noReader : ℕ → Bool
+noReader n = ltb 2 n
+
+-- and raw is no form to write
+unfoldable pub noWriter : ℕ → Bool
+noWriter n = eqb n (numberOf raw) || noReader n
+
+-- the form of a number; a call refuses a number that is none before
 unfoldable pub formOf : ℕ → Form
 formOf zero = raw
 formOf (suc zero) = tokenized

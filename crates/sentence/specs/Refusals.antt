@@ -1,5 +1,5 @@
 -- The refusals of a call, in their order. Which is given is the first whose test is true.
-use Prim.Native.Nat.{ℕ}
+use Prim.Native.Nat.{ℕ, _+_, _*_, _^_, _<_}
 use mathlib.Core.Bool.{Bool, true, false}
 use mathlib.Core.List.{List, [], _∷_}
 use Rattle.laws.specs.If.{if_then_else_}
@@ -10,6 +10,14 @@ use Rattle.sentence.specs.Reading.{Result, sentence, refused}
 -- a number and its place
 abbrev pub refusal : ℕ → ℕ → Refusal
 refusal n p = record { number = n; place = p }
+
+-- a refusal as the host's number: 2^63 plus 256 times its place plus its number
+unfoldable pub refusalCode : Refusal → ℕ
+refusalCode r = 2 ^ 63 + 256 * r .place + r .number
+
+-- its place is small, so that this number fits 64 bits
+abbrev pub Near : Refusal → Type 0
+Near r = r .place < 2 ^ 32
 
 -- a test, and the number and place of the refusal where it is true
 pub data Check : Type 0 where

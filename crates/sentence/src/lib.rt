@@ -1,6 +1,8 @@
 // The forms of a line, and what a refused call answers; the definitions of sentences and annotated lines stand in specs/.
+pub mod unchecked; // unchecked.rt: for a refusal at a small place
+
 ghost use mathlib.Core.Path.{_≡_};
-ghost use Rattle.sentence.specs.Forms.{formOf};
+ghost use Rattle.sentence.specs.Forms.{noReader, noWriter, formOf};
 ghost use Rattle.sentence.specs.Refusals.{refusal};
 
 // The form of a line.
@@ -11,6 +13,20 @@ pub enum Form {
 }
 
 impl Form {
+    // Whether a number is no form.
+    pub fn no_reader(number: u32) -> bool
+        ensures { λ r. ⌜ r ≡ noReader number ⌝ }
+    {
+        2 < number
+    }
+
+    // Whether a number is no form to write.
+    pub fn no_writer(number: u32) -> bool
+        ensures { λ r. ⌜ r ≡ noWriter number ⌝ }
+    {
+        (number == 0) | (2 < number)
+    }
+
     // The form of a number: 0 raw, 1 tokenized, 2 partial; callers refuse every other number before.
     pub fn of(number: u32) -> Form
         ensures { λ r. ⌜ r ≡ formOf number ⌝ }

@@ -11,7 +11,7 @@ use lib.Seq.{length-take-le, drop-drop, drop-length, take-append-le, drop-append
 use Rattle.laws.specs.All.{All, All-imp}
 use Rattle.laws.proofs.Facts.{reads}
 use Rattle.utf8.specs.Utf8.{scalars, encodes, size}
-use Rattle.utf8.proofs.Codec.{length-encodes, scalars-encodes}
+use Rattle.utf8.proofs.Codec.{length-encodes, scalars-encodes, size-long}
 use Rattle.types.specs.TypeOf.{typeOf}
 use Rattle.sentence.specs.Sentence.{Tag, Mark, none, word, unknown, code, Cells, Sentence, textOf, marksOf, rowsOf, text, marks, rows, types, charPositions, bytePositions, cut, rowBytes, tagBytes, Char, Row, CellsOf, Formed}
 use Rattle.sentence.proofs.Shape.{cut-row}
@@ -23,7 +23,7 @@ use Rattle.sheet.specs.Eight.{Which, the-text, the-types, the-boundaries
 use Rattle.sheet.specs.Layout.{Buffers, recordOf, tagsOf, cellsOf, cellStarts, bytesOf, lay, takes, enough, roomFor, AtLeast, Front, Holds, slices, rowsBy, markOf, link, spell, Sheet}
 use Rattle.sheet.specs.Check.{inLimits, isLaid, Room, isSheet}
 use Rattle.sheet.proofs.Eights.{in-order, every, one, pick-each, all-true, true-all}
-use Rattle.sheet.proofs.Held.{prefixes-held, length-marks, length-cellStarts, length-bytesOf, bytes-tagsOf, bytes-same, some-bytes, n-held, b-held, columns-held, cells-held, g-held, text-held, types-held, boundaries-held, char-pos-held, byte-pos-held, cell-starts-held, cell-lengths-held, tag-bytes-held, text-chars-held, cells-chars-held}
+use Rattle.sheet.proofs.Held.{prefixes-held, length-marks, length-cellStarts, length-bytesOf, bytes-tagsOf, bytes-same, n-held, b-held, columns-held, cells-held, g-held, text-held, types-held, boundaries-held, char-pos-held, byte-pos-held, cell-starts-held, cell-lengths-held, tag-bytes-held, text-chars-held, cells-chars-held}
 
 -- ---- boundaries
 marks-are : (ms : List ℕ) → areMarks ms ≡ true → map code (map markOf ms) ≡ ms
@@ -186,7 +186,7 @@ module _ (r : Record) (d : Buffers) (s : Sentence) (h : Holds r d s) where
       let f = h .formed in
       rw (
         le-leb 1 (r .n) (omega (arith, n-held h, length-marks (s .cells))),
-        le-leb (r .n) (r .b) (omega (arith, n-held h, b-held h, some-bytes (text s))),
+        le-leb (r .n) (r .b) (omega (arith, n-held h, b-held h, size-long (text s))),
         le-leb (r .b) 4096 (omega (arith, b-held h, f .text-fits)),
         le-leb (r .columns) 4096 (omega (arith, columns-held h, f .columns-fit)),
         le-leb (r .g) 65535 (omega (arith, g-held h, f .bytes-fit)),

@@ -9,7 +9,7 @@ use lib.Seq.{take-append-seam, take-at, drop-at}
 use Rattle.laws.specs.Put.{over}
 use Rattle.laws.specs.All.{All, All-append, All-imp}
 use Rattle.utf8.specs.Utf8.{scalars, encodes, size}
-use Rattle.utf8.proofs.Codec.{length-encodes, scalars-encodes, width-small}
+use Rattle.utf8.proofs.Codec.{length-encodes, scalars-encodes}
 use Rattle.types.specs.TypeOf.{typeOf}
 use Rattle.sentence.specs.Sentence.{Tag, Mark, none, word, unknown, code, Cells, final, cell, Sentence, textOf, marksOf, rowsOf, text, marks, rows, types, charPositions, bytePositions, pad, rowBytes, tagBytes, Char, Row, CellsOf, Formed}
 use Rattle.sentence.proofs.Trips.{all-absent, cut-pad, pad-length}
@@ -23,7 +23,7 @@ pub laid-holds : (s : Sentence) (d : Buffers) → Formed s → roomFor (recordOf
 unfolding laid
 laid-holds s d f h = record { formed = f; record-is = refl; lies = every (λ i. rw (pick-pairwise over (lay s) d i) (take-append-seam (pick (lay s) i) _)) }
 
--- ---- how long the parts are
+-- ---- how long the lists are
 pub length-marks : (s : Cells) → length (textOf s) ≡ length (marksOf s) + 1
 unfolding textOf marksOf
 length-marks (final c r) = refl
@@ -58,12 +58,6 @@ pub bytes-tagsOf : (rs : List (List Tag)) → rowBytes (tagsOf rs) ≡ tagBytes 
 unfolding tagsOf rowBytes tagBytes
 bytes-tagsOf [] = refl
 bytes-tagsOf (r ∷ rs) = omega (arith, rowBytes-append r (tagsOf rs), bytes-tagsOf rs)
-
--- a character has at least a byte
-pub some-bytes : (cs : List ℕ) → length cs ≤ size cs
-unfolding size
-some-bytes [] = omega arith
-some-bytes (c ∷ cs) = omega (arith, some-bytes cs, width-small c)
 
 -- ---- each list gives back what it was made of
 pub marks-back : (ms : List Mark) → map markOf (map code ms) ≡ ms

@@ -11,7 +11,7 @@ use Rattle.utf8.proofs.Codec.{length-encodes, scalars-encodes}
 use Rattle.sentence.specs.Sentence.{Tag, Sentence, text, marks, rows, listed, Char, Row}
 use Rattle.sheet.specs.declared.Record.{Record}
 use Rattle.sheet.specs.Layout.{Buffers, recordOf, tagsOf, bytesOf, Holds, spell}
-use Rattle.sheet.specs.Listed.{rowEnds, tagEnds, pieces, Lists, spellListed}
+use Rattle.sheet.specs.Listed.{rowEnds, tagEnds, slicesTo, Lists, spellListed}
 use Rattle.sheet.proofs.Held.{length-rows, marks-back, cells-back, n-held, text-held, boundaries-held, text-chars-held, rows-held, spelled}
 
 length-rowEnds : (k : ℕ) (rs : List (List Tag)) → length (rowEnds k rs) ≡ length rs
@@ -29,15 +29,15 @@ unfolding tagsOf listed
 length-tagsOf [] = refl
 length-tagsOf (r ∷ rs) = rw length-append (omega (arith, length-tagsOf rs))
 
-rows-back : (k : ℕ) (rs : List (List Tag)) → pieces k (rowEnds k rs) (tagsOf rs) ≡ rs
-unfolding rowEnds tagsOf pieces
+rows-back : (k : ℕ) (rs : List (List Tag)) → slicesTo k (rowEnds k rs) (tagsOf rs) ≡ rs
+unfolding rowEnds tagsOf slicesTo
 rows-back k [] = refl
 rows-back k (r ∷ rs) =
     let e : length r ≡ k + length r - k = omega arith in
     rw (take-at r (tagsOf rs) _ e, drop-at r (tagsOf rs) _ e, rows-back (k + length r) rs)
 
-tags-back : (g : ℕ) (ts : List Tag) (x : List ℕ) → All (All Char) ts → map scalars (pieces g (tagEnds g ts) (bytesOf ts ++ x)) ≡ ts
-unfolding tagEnds bytesOf pieces
+tags-back : (g : ℕ) (ts : List Tag) (x : List ℕ) → All (All Char) ts → map scalars (slicesTo g (tagEnds g ts) (bytesOf ts ++ x)) ≡ ts
+unfolding tagEnds bytesOf slicesTo
 tags-back g [] x h = refl
 tags-back g (t ∷ ts) x h =
     let e : length (encodes t) ≡ g + size t - g = omega (arith, length-encodes t) in
@@ -55,7 +55,7 @@ module _ (r : Record) (d : Buffers) (s : Sentence) (w e g : List ℕ) (h : Holds
   tag-ends : take (listed (rows s)) e ≡ tagEnds 0 (tagsOf (rows s))
   tag-ends = let f = length-tagEnds 0 (tagsOf (rows s)) ∙ length-tagsOf (rows s) in rw (← f) (l .tag-ends-at)
 
-  tags : map scalars (pieces 0 (take (listed (rows s)) e) g) ≡ tagsOf (rows s)
+  tags : map scalars (slicesTo 0 (take (listed (rows s)) e) g) ≡ tagsOf (rows s)
   tags =
       let ts = tagsOf (rows s) in
       rw (tag-ends, ← (take-append-drop (length (bytesOf ts)) g), l .tag-bytes-at) (tags-back 0 ts _ (tags-chars (s .columns) (rows s) (rows-held h)))

@@ -5,7 +5,7 @@ use native.Mathlib.Numerals.{add-one}
 use native.Mathlib.Decide.{decLt}
 use native.Mathlib.Omega.{arith}
 use mathlib.Core.Path.{_≡_, refl, sym, ap, _∙_}
-use mathlib.Core.Bool.{Bool, true, false, not, _||_, false≢true}
+use mathlib.Core.Bool.{Bool, true, false, not}
 use mathlib.Core.List.{List, [], _∷_, _++_, append-nil, append-assoc}
 use lib.ListN.{length, getD, take, drop, replicate, length-append, length-drop, length-replicate, getD-replicate, take-append-drop, drop-of-length-le, List·getD-append, List·getD-map}
 use lib.Seq.{length-take-le, take-suc, drop-cons, take-add, take-take, take-nil, take-all, take-length, take-at, drop-at, take-append-le, take-append-add, drop-append-le, getD-take, getD-append-add}
@@ -14,7 +14,7 @@ use Rattle.laws.specs.If.{if_then_else_}
 use Rattle.laws.specs.All.{All}
 use Rattle.utf8.specs.Utf8.{decodeAt, width, encodes, size}
 use Rattle.utf8.specs.declared.Decoded.the-variants.{Char}
-use Rattle.utf8.proofs.Codec.{length-encodes, encodes-append, size-append, width-small, decode-encode}
+use Rattle.utf8.proofs.Codec.{length-encodes, encodes-append, size-append, width-small, decode-encode, size-long}
 use Rattle.sentence.specs.Sentence.{Tag, Mark, none, word, unknown, code, Sentence, text, marks, rows, starts, numbers, pad, rowBytes, tagBytes, Row}
 use Rattle.sentence.specs.Sentence as SC
 use Rattle.sentence.specs.declared.Refusal.{Refusal}
@@ -26,7 +26,7 @@ use Rattle.sheet.specs.Layout.{Buffers, takes, AtLeast, cellsOf, cellSta
 use Rattle.sheet.specs.Check.{isSheet}
 use Rattle.sheet.proofs.Exact.{is-sheet}
 use Rattle.sheet.proofs.Eights.{every, one}
-use Rattle.sheet.proofs.Held.{prefixes-held, Prefix, length-marks, length-rows, length-bytesOf, rowBytes-append, some-bytes, bytes-joined, bytes-same, cells-bytes, cells-long, n-held, b-held, columns-held, cells-held, g-held, text-held, boundaries-held, char-pos-held, byte-pos-held, cell-starts-held, cell-lengths-held, tag-bytes-held, text-chars-held, rows-held}
+use Rattle.sheet.proofs.Held.{prefixes-held, Prefix, length-marks, length-rows, length-bytesOf, rowBytes-append, bytes-joined, bytes-same, cells-bytes, cells-long, n-held, b-held, columns-held, cells-held, g-held, text-held, boundaries-held, char-pos-held, byte-pos-held, cell-starts-held, cell-lengths-held, tag-bytes-held, text-chars-held, rows-held}
 
 -- ---- a buffer that starts with a front of n elements
 pub prefix-at : {n : ℕ} {front d : List ℕ} → Prefix n front d → (i : ℕ) → i < n → getD d i 0 ≡ getD front i 0
@@ -44,7 +44,7 @@ prefix-of {n} {front} {d} p b k h =
     ap (λ (m : List ℕ). take k (drop b m)) (sym (prefix-whole p))
     ∙ rw (drop-append-le b front (drop n d) (omega arith)) (take-append-le k (drop b front) (drop n d) (omega (arith, length-drop b front)))
 
--- ---- parts of a list that is made of the parts of another, one after the other
+-- ---- slices of a list that is made of lists one after the other
 module _ {A B : Type 0} (F : List A → List B) (n : List A → ℕ) (joins : (us vs : List A) → F (us ++ vs) ≡ F us ++ F vs) (long : (us : List A) → length (F us) ≡ n us) where
   sum : (us vs : List A) → n (us ++ vs) ≡ n us + n vs
   sum us vs = omega (arith, long (us ++ vs), ap length (joins us vs), length-append (F us) (F vs), long us, long vs)
@@ -269,7 +269,7 @@ module _ {r : Record} {d : Buffers} {s : Sentence} (h : Holds r d s) where
         cells-are = cells-long h;
         cells-size = cells-bytes (s .columns) (rows s) ∙ sym g-is;
         n-some = omega (arith, length-marks (s .cells));
-        n-few = omega (arith, some-bytes (text s));
+        n-few = omega (arith, size-long (text s));
         b-few = omega (arith, h .formed .text-fits);
         columns-few = omega (arith, h .formed .columns-fit);
         g-few = omega (arith, h .formed .bytes-fit);
@@ -305,7 +305,7 @@ module _ {r : Record} {d : Buffers} {s : Sentence} (h : Holds r d s) where
   unfolding size
   cell-length-is j k = prefix-at (cell-lengths-held h) j k ∙ List·getD-map size cells j []
 
-  -- ---- parts of the text and of the tag bytes
+  -- ---- slices of the text and of the tag bytes
   -- the bytes of the characters from b up to e
   pub text-stretch : (b e : ℕ) → b ≤ e → e ≤ r .n
       → take (size (take e (text s)) - size (take b (text s))) (drop (size (take b (text s))) (d .text-buf)) ≡ encodes (surface s b e)
@@ -399,11 +399,6 @@ module _ {A : Type 0} (refuse : Refusal → A) (g good out : Bool) (first : ℕ)
 -- what a check that was passed says
 pub checked : (r : Record) (d : Buffers) (g : Bool) → g ≡ isSheet r d → not g ≡ false → Sheet r d
 checked r d g e h = is-sheet r d (sym e ∙ not-false g h)
-
--- two tests of which neither is true
-pub neither : (p q : Bool) → (p || q) ≡ false → (p ≡ false) × (q ≡ false)
-neither true q h = absurd (false≢true (sym h))
-neither false q h = (refl, h)
 
 -- the checks that an answer passed which is no refusal
 abbrev pub Passed : List Check → Type 0

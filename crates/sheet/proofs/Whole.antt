@@ -1,4 +1,4 @@
--- What the check needs of its parts' answers. Assumes nothing.
+-- What the check needs of its passes' answers. Assumes nothing.
 use Prim.Native.Nat.{ℕ, _+_, _-_, _*_, _≤_, _<_}
 use native.Mathlib.Nat.{mul-le-mul-right}
 use native.Mathlib.Omega.{arith}

@@ -124,7 +124,7 @@ pub record Holds (r : Record) (d : Buffers) (s : Sentence) : Type 0 where
   pub lies : Each Front (lay s) d
 
 -- ---- the sentence that a record and buffers spell
--- a list cut into parts of these lengths
+-- a list cut into slices of these lengths
 unfoldable pub slices : List ℕ → List ℕ → List (List ℕ)
 slices [] d = []
 slices (l ∷ ls) d = take l d ∷ slices ls (drop l d)

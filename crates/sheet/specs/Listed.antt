@@ -18,9 +18,9 @@ tagEnds g [] = []
 tagEnds g (t ∷ ts) = (g + size t) ∷ tagEnds (g + size t) ts
 
 -- a list cut at ends that are counted from g on
-unfoldable pub pieces : {A : Type 0} → ℕ → List ℕ → List A → List (List A)
-pieces g [] d = []
-pieces g (e ∷ es) d = take (e - g) d ∷ pieces e es (drop (e - g) d)
+unfoldable pub slicesTo : {A : Type 0} → ℕ → List ℕ → List A → List (List A)
+slicesTo g [] d = []
+slicesTo g (e ∷ es) d = take (e - g) d ∷ slicesTo e es (drop (e - g) d)
 
 -- lists that start with the ends of a sentence's rows, the ends of its tags and their bytes
 pub record Lists (s : Sentence) (row-ends tag-ends tag-bytes : List ℕ) : Type 0 where
@@ -35,6 +35,6 @@ spellListed r d k w e g = record {
       link
       (scalars (take (r .b) (d .text-buf)))
       (map markOf (take (r .n - 1) (d .boundaries-buf)))
-      (pieces 0 (take (r .n) w) (map scalars (pieces 0 (take k e) g)));
+      (slicesTo 0 (take (r .n) w) (map scalars (slicesTo 0 (take k e) g)));
   columns = r .columns;
 }

@@ -26,7 +26,7 @@ pub enum Number {
     Refused(Refusal),
 }
 
-// What a call answers that asks for a part of a buffer; an absent tag has none.
+// What a call answers that asks for bytes of a buffer; an absent tag has none.
 pub enum Slice {
     Bytes { start: usize, end: usize },
     Absent,
@@ -68,7 +68,7 @@ fn fits(
             & (r.g <= tag_bytes.len()))
 }
 
-// What the record counts of the buffers, part by part.
+// What the record counts of the buffers, one by one.
 fn is_laid(
     r: Record,
     text: &[u8],

@@ -1,4 +1,4 @@
--- The tests of a sheet's parts, each of lists that are the whole of what a record counts: the text with its types and positions, the boundaries, the cells.
+-- The tests of a sheet, each of lists that are the whole of what a record counts: the text with its types and positions, the boundaries, the cells.
 use Prim.Native.Nat.{ℕ, _+_, _-_, _≤_, _<_}
 use mathlib.Core.Path.{_≡_}
 use mathlib.Core.Bool.{Bool, true, false, not, _&&_}

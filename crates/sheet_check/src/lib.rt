@@ -1,4 +1,4 @@
-// The passes of a sheet's check, each over parts of the buffers that are the whole of what a record counts.
+// The passes of a sheet's check, each over slices of the buffers that are the whole of what a record counts.
 use types::blocks::Tables;
 use types::unchecked::get_type;
 use utf8::Decoded;

@@ -17,10 +17,10 @@ const CELLS: usize = 400000;
 
 // The capital of a form's letter.
 fn capital(b: u8) -> u8 {
-    if b < 97 {
+    if b < b'a' {
         return b;
     }
-    b - 32
+    b - (b'a' - b'A')
 }
 
 // Which field has the form; the line stands behind it.
@@ -34,7 +34,7 @@ fn form_at(kind: u8) -> usize {
 
 // A refusal: the recorded ones have no number, but for 2.
 fn refused(kind: u8, f: Refusal, sink: Sink) -> Sink {
-    if (kind >= 97) | (f.number == 2) {
+    if (kind >= b'a') | (f.number == 2) {
         return test_render::refusal(f, sink);
     }
     sink.put(b'!')
@@ -57,7 +57,7 @@ fn served(
     let kind = first(line);
     match a {
         Answer::Sentence(r) => {
-            if kind >= 97 {
+            if kind >= b'a' {
                 return sink.put(b'=');
             }
             let now = change(

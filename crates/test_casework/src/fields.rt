@@ -2,7 +2,7 @@
 ghost use Prim.Native.Nat.{_≤_, min};
 ghost use lib.ListN.{length};
 
-// A part of some bytes, and nothing where there is no such part.
+// A slice of some bytes, and nothing where there is no such slice.
 pub fn within<'a>(s: &'a [u8], from: usize, to: usize) -> &'a [u8] {
     if from <= to {
         if to <= s.len() {
@@ -12,7 +12,7 @@ pub fn within<'a>(s: &'a [u8], from: usize, to: usize) -> &'a [u8] {
     &s[..0]
 }
 
-// A part of some numbers, and nothing where there is no such part.
+// A slice of some numbers, and nothing where there is no such slice.
 pub fn within16<'a>(s: &'a [u16], from: usize, to: usize) -> &'a [u16] {
     if from <= to {
         if to <= s.len() {
@@ -65,7 +65,7 @@ fn digit(b: u8) -> u64
     ensures { λ r. ⌜ r ≤ 10 ⌝ }
 {
     match b {
-        48..=57 => (b - 48) as u64,
+        b'0'..=b'9' => (b - b'0') as u64,
         _ => 10,
     }
 }

@@ -8,9 +8,9 @@ ghost use lib.ListN.{length};
 // The value of a hex digit, and 16 of what is none.
 fn digit(b: u8) -> u8 {
     match b {
-        48..=57 => b - 48,
-        65..=70 => b - 55,
-        97..=102 => b - 87,
+        b'0'..=b'9' => b - b'0',
+        b'A'..=b'F' => b - b'A' + 10,
+        b'a'..=b'f' => b - b'a' + 10,
         _ => 16,
     }
 }

@@ -37,7 +37,7 @@ pub fn next_line(line: &mut [u8]) -> Line {
     let mut turns = u64::MAX;
     while turns > 0 {
         let b = next();
-        let ends = b.is & (b.value == 10);
+        let ends = b.is & (b.value == b'\n');
         if ends | !b.is {
             return Line {
                 n: n,

@@ -6,7 +6,7 @@ use std::num::wrapping_add_usize;
 // How many bytes are held before they are written.
 const ROOM: usize = 16;
 
-// What is put is held and written in pieces; of a quiet one it is only counted: how many bytes, and their sum (from 5381, each
+// What is put is held and written some at a time; of a quiet one it is only counted: how many bytes, and their sum (from 5381, each
 // byte gives 33 times the sum plus the byte).
 pub struct Sink {
     pub count: usize,
@@ -19,10 +19,10 @@ pub struct Sink {
 // The digit of a number below 16.
 fn glyph(v: u8) -> u8 {
     if v < 10 {
-        return v + 48;
+        return v + b'0';
     }
     if v < 16 {
-        return v + 87;
+        return v - 10 + b'a';
     }
     b'?'
 }

@@ -34,7 +34,7 @@ fn number(a: Number) {
     }
 }
 
-// Writes where a part starts and ends.
+// Writes where a slice starts and ends.
 fn slice(a: Slice) {
     match a {
         Slice::Bytes { start, end } => {

@@ -3,7 +3,7 @@
 // K FORM LINE ROOM LETTER INDEX VALUE: the key, out of the sheet of a line with what is changed of it.
 // H FORM LINE ROOM LETTER INDEX VALUE START END: the copy of a range, out of the same.
 // A FORM LINE ROOM: the copies of every range from 0 to one past the characters, for each start in turn those of each end.
-// FORM is R, T or P. LINE is hex; `HEX*COUNT` is that often repeated, and pieces are joined by commas. ROOM is at most 16,384. A number
+// FORM is R, T or P. LINE is hex; `HEX*COUNT` is that often repeated, and such are joined by commas. ROOM is at most 16,384. A number
 // behind `~` is counted down from the largest. LETTER, INDEX and VALUE: N, B, C, E, G: that number of the record is the value, C the
 // columns and E the cells; L: of the buffer with the index only so many elements are lent; - changes nothing.
 // An answer is `=` and the key or copy in hex, or `!` with number and place of a refusal; a `+` behind it says that output changed which must

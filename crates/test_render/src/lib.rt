@@ -38,7 +38,7 @@ fn number(n: Number, sink: Sink) -> Sink {
     }
 }
 
-// A part of some bytes, or a dash for an absent one.
+// Some bytes, or a dash for an absent tag.
 fn bytes_of(bytes: &[u8], p: Slice, sink: Sink) -> Sink {
     match p {
         Slice::Bytes { start, end } => sink.hex(within(bytes, start, end)),
@@ -47,7 +47,7 @@ fn bytes_of(bytes: &[u8], p: Slice, sink: Sink) -> Sink {
     }
 }
 
-// A part that a call answered.
+// A slice that a call answered.
 fn slice_told(bytes: &[u8], p: Slice, sink: Sink) -> Sink {
     match p {
         Slice::Refused(f) => refusal(f, sink),

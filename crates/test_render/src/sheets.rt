@@ -1,4 +1,4 @@
-// The answers on a sheet: its sentence after a change, or a part of it.
+// The answers on a sheet: its sentence after a change, or one field of it.
 use sheet::Answer;
 use sheet::Record;
 use test_calls::look;

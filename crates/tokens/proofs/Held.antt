@@ -1,22 +1,12 @@
 -- What a sheet holds for the cursor: its boundaries are the sentence's, within the limits. Assumes nothing.
-use Prim.Native.Nat.{ℕ, _≤_}
 use mathlib.Core.Path.{_≡_}
-use mathlib.Core.List.{List, [], _∷_}
 use native.Mathlib.Omega.{arith}
-use lib.ListN.{length}
-use Rattle.utf8.specs.Utf8.{size}
-use Rattle.utf8.proofs.Codec.{width-small}
+use Rattle.utf8.proofs.Codec.{size-long}
 use Rattle.sentence.specs.Sentence.{Sentence, text, marks}
 use Rattle.sheet.specs.declared.Record.{Record}
 use Rattle.sheet.specs.Layout.{Buffers, Holds}
 use Rattle.sheet.proofs.Held.{length-marks, marks-back, n-held, boundaries-held}
 use Rattle.tokens.specs.Steps.{marksIn, Bounded}
-
--- a text has at least as many bytes as characters
-size-long : (cs : List ℕ) → length cs ≤ size cs
-unfolding size
-size-long [] = omega arith
-size-long (c ∷ cs) = omega (arith, size-long cs, width-small c)
 
 module _ {r : Record} {d : Buffers} {s : Sentence} (h : Holds r d s) where
   pub marks-held : marksIn (r .n) (d .boundaries-buf) ≡ marks s

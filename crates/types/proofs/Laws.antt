@@ -91,7 +91,7 @@ placed x (y ∷ ys) h = on (eqb x y) refl h (placed x ys)
     on true e g more = sym (eqb-true x y e)
     on false e g more = more (le-of-suc-le-suc g)
 
--- the parts of the test
+-- what the test says of each row
 record Passed (index blocks : List ℕ) : Type 0 where
   index-length : length index ≡ 256
   blocks-length : length blocks ≡ 2560

@@ -31,6 +31,17 @@ width-small v = if-both few _ _ _ (omega arith) (if-both few _ _ _ (omega arith)
     few : ℕ → Type 0
     few n = (1 ≤ n) × (n ≤ 4)
 
+-- a text has at least as many bytes as characters, and one without bytes is empty
+pub size-long : (cs : List ℕ) → length cs ≤ size cs
+unfolding size
+size-long [] = omega arith
+size-long (c ∷ cs) = omega (arith, size-long cs, width-small c)
+
+pub no-bytes : (cs : List ℕ) → size cs ≡ 0 → cs ≡ []
+unfolding size
+no-bytes [] h = refl
+no-bytes (c ∷ cs) h = absurd (omega (arith, width-small c))
+
 -- ---- a scalar value, as one equation that `omega` reads
 abbrev gap : ℕ → ℕ
 gap v = (v - 0x10FFFF) + min (v - 0xD7FF) (0xE000 - v)
@@ -177,7 +188,7 @@ pub record Coded (s : List ℕ) (v n : ℕ) : Type 0 where
 coded : (s bs : List ℕ) (v : ℕ) → take (length bs) s ≡ bs → encode v ≡ bs → scalar v ≡ true → Coded s v (length bs)
 coded s bs v e f g = record { bytes = e ∙ sym f; wide = sym (ap length f) ∙ length-encode v; is-scalar = g }
 
-one-encoded : (v : ℕ) → leb v 0x7F ≡ true → encode v ≡ v ∷ []
+pub one-encoded : (v : ℕ) → leb v 0x7F ≡ true → encode v ≡ v ∷ []
 unfolding encode if_then_else_
 one-encoded v e = rw e
 

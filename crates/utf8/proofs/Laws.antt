@@ -14,7 +14,7 @@ use Rattle.laws.specs.If.{if-both}
 use Rattle.laws.proofs.Facts.{reads, or-is}
 use Rattle.utf8.specs.declared.Decoded.{Decoded}
 use Rattle.utf8.specs.declared.Decoded.the-variants.{Char, Bad, End}
-use Rattle.utf8.specs.Utf8.{within, tail, utf8-3, charOf, charAt, decodeAt, chars, wholes, validPrefix, width}
+use Rattle.utf8.specs.Utf8.{within, tail, utf8-3, charOf, charAt, decodeAt, chars, wholes, validPrefix, values, scalars, width}
 use Rattle.utf8.proofs.Codec.{one-decoded, three-told, encode-decode, width-small, length-encode}
 use Rattle.utf8.proofs.Walk.{walk-char, walk-bad, walk-end}
 
@@ -101,6 +101,10 @@ len-met s at v n d p q = let h = len-ok s at v n (sym p ∙ q) in record { some 
 pub chars-char : (s : List ℕ) (at v n : ℕ) → decodeAt s at ≡ Char v n → chars (drop at s) ≡ Char v n ∷ chars (drop (at + n) s)
 unfolding decodeAt
 chars-char s at v n e = walk-char (drop at s) v n e (len-ok s at v n e .0) ∙ rw drop-drop
+
+pub left-char : (s : List ℕ) (at v n : ℕ) → decodeAt s at ≡ Char v n → scalars (drop at s) ≡ v ∷ scalars (drop (at + n) s)
+unfolding values
+left-char s at v n e = ap values (chars-char s at v n e)
 
 -- its value and its bytes
 pub width-at : (s : List ℕ) (at v n : ℕ) → decodeAt s at ≡ Char v n → n ≡ width v

@@ -1,4 +1,4 @@
--- Escaping a part of a slice, byte by byte; escaping characters is escaping their bytes. Assumes nothing.
+-- Escaping a slice, byte by byte; escaping characters is escaping their bytes. Assumes nothing.
 use Prim.Native.Nat.{ℕ, zero, suc, _+_, _-_, _*_, _≤_, _<_}
 use mathlib.Core.Path.{_≡_, refl, sym, ap, _∙_}
 use mathlib.Core.Bool.{Bool, true, false}
@@ -64,7 +64,7 @@ meant-none false b u v w x y = rw (ne-eqb b 32 u, ne-eqb b 47 v, ne-eqb b 92 w)
 
 pub ruleset meanings = (meant-space, meant-slash, meant-back, meant-dash, meant-bar, meant-none)
 
--- the next byte of a part, as the test on it has come out
+-- the next byte of a slice, as the test on it has come out
 module _ (f : Form) (to i : ℕ) (l : List ℕ) (t : Bool) (h : i < to) (k : to ≤ length l) (e : t ≡ meant (kind f (getD l i 0))) where
   escape-next : {vs : List ℕ} → escapeAs (kind f (getD l i 0)) (getD l i 0) ≡ vs → escape f (drop i (take to l)) ≡ vs ++ escape f (drop (i + 1) (take to l))
   unfolding escape
@@ -98,7 +98,7 @@ copy-room to i l w h k = omega (arith, write-fits w (getD l i 0 ∷ []) _ (left-
 
 pub ruleset escapes = (escape-meant, escape-plain, escape-none)
 
--- a loop that counts what the part takes: n so far, up to i
+-- a loop that counts what the slice takes: n so far, up to i
 pub record Counting (f : Form) (part : List ℕ) (to : ℕ) (l : List ℕ) (i n : ℕ) : Type 0 where
   pub sum : n + length (escape f (drop i (take to l))) ≡ length (escape f part)
   pub few : n ≤ 2 * i

@@ -7,10 +7,10 @@ use native.Mathlib.Omega.{arith}
 use borrow.Author.Tests.{ne-eqb, leb-false}
 use lib.Dec.{leb, eqb}
 use lib.ListN.{length, replicate, length-map}
-use Rattle.laws.specs.If.{if_then_else_, if-true, if-false, if-cases}
+use Rattle.laws.specs.If.{if_then_else_, if-false, if-cases}
 use Rattle.laws.specs.All.{All}
 use Rattle.utf8.specs.Utf8.{encode, encodes}
-use Rattle.utf8.proofs.Codec.{encodes-append}
+use Rattle.utf8.proofs.Codec.{encodes-append, one-encoded}
 use Rattle.sentence.specs.Sentence.{Tag, pad}
 use Rattle.sentence.specs.declared.Form.{Form}
 use Rattle.sentence.specs.declared.Form.the-variants.{Raw as raw, Tokenized as tokenized, Partial as partial}
@@ -34,10 +34,6 @@ unfolding escape escapeAs
 escape-high f [] h = refl
 escape-high f (b ∷ bs) h = rw (high-plain f b (h .0), escape-high f bs (h .1))
 
-encode-low : (c : ℕ) → leb c 0x7F ≡ true → encode c ≡ c ∷ []
-unfolding encode
-encode-low c h = if-true _ _ _ h
-
 encode-high : (c : ℕ) → leb c 0x7F ≡ false → All (λ b. 128 ≤ b) (encode c)
 unfolding encode
 encode-high c h =
@@ -46,9 +42,9 @@ encode-high c h =
 
 encodes-as : (k : Kind) (c : ℕ) → encode c ≡ c ∷ [] → encodes (escapeAs k c) ≡ escapeAs k c
 unfolding escapeAs encodes
-encodes-as (mark m) c e = rw (e, encode-low 92 refl)
-encodes-as slash c e = rw (e, encode-low 92 refl)
-encodes-as back c e = rw (e, encode-low 92 refl)
+encodes-as (mark m) c e = rw (e, one-encoded 92 refl)
+encodes-as slash c e = rw (e, one-encoded 92 refl)
+encodes-as back c e = rw (e, one-encoded 92 refl)
 encodes-as plain c e = rw e
 
 encode-escape : (f : Form) (c : ℕ) → encodes (escapeAs (kind f c) c) ≡ escape f (encode c)
@@ -56,7 +52,7 @@ unfolding escape escapeAs encodes
 encode-escape f c = on (leb c 0x7F) refl
   where
     on : (b : Bool) → leb c 0x7F ≡ b → encodes (escapeAs (kind f c) c) ≡ escape f (encode c)
-    on true e = encodes-as (kind f c) c (encode-low c e) ∙ rw (encode-low c e, append-nil)
+    on true e = encodes-as (kind f c) c (one-encoded c e) ∙ rw (one-encoded c e, append-nil)
     on false e = rw (high-plain f c (omega (arith, leb-false c 0x7F e)), append-nil) (sym (escape-high f (encode c) (encode-high c e)))
 
 -- ---- a text, tags, and a row with all columns
@@ -69,7 +65,7 @@ encodes-escape f (c ∷ t) =
 pub encodes-tags : (f : Form) (ts : List Tag) → encodes (writeTags f ts) ≡ writeTags f (map encodes ts)
 unfolding writeTags encodes
 encodes-tags f [] = refl
-encodes-tags f (t ∷ ts) = rw (encode-low 47 refl, encodes-append (escape f t) (writeTags f ts), encodes-escape f t, encodes-tags f ts)
+encodes-tags f (t ∷ ts) = rw (one-encoded 47 refl, encodes-append (escape f t) (writeTags f ts), encodes-escape f t, encodes-tags f ts)
 
 encodes-absent : (r : List Tag) (k : ℕ) → map encodes (r ++ replicate k []) ≡ map encodes r ++ replicate k []
 unfolding encodes

@@ -1,4 +1,4 @@
--- What a call leaves in the output that it is lent, and a loop that writes part after part. Assumes nothing.
+-- What a call leaves in the output that it is lent, and a loop that writes item after item. Assumes nothing.
 use Prim.Native.Nat.{ℕ, suc, _+_, _≤_}
 use mathlib.Core.Path.{_≡_, refl, sym, ap, _∙_}
 use mathlib.Core.List.{List, [], _∷_, _++_}
@@ -28,7 +28,7 @@ put-append (v ∷ vs) ws d i =
     let e : i + 1 + length vs ≡ i + suc (length vs) = omega arith in
     put-append vs ws (set d i v) (i + 1) ∙ rw e
 
--- two parts one after the other
+-- two items one after the other
 pub wrote-both : {o₀ vs o₁ ws o₂ : List ℕ} {at i j : ℕ} → Wrote o₀ at vs o₁ i → Wrote o₁ i ws o₂ j → Wrote o₀ at (vs ++ ws) o₂ j
 wrote-both {o₀} {vs} {ws = ws} {at = at} p q = record {
   bytes = q .bytes ∙ rw (p .bytes, p .end) (sym (put-append vs ws o₀ at));
@@ -74,9 +74,9 @@ module _ {out₀ : List ℕ} {from : ℕ} {all d : List ℕ} {at : ℕ} {left : 
     same = sym (ap (put d at) e) ∙ w .same;
   }
 
-  -- a call writes a part
-  pub write-part : {vs rest d′ : List ℕ} {at′ : ℕ} → left ≡ vs ++ rest → Wrote d at vs d′ at′ → Writing out₀ from all d′ at′ rest
-  write-part {vs} {rest} {d′} {at′} e c = record {
+  -- a call writes an item
+  pub write-item : {vs rest d′ : List ℕ} {at′ : ℕ} → left ≡ vs ++ rest → Wrote d at vs d′ at′ → Writing out₀ from all d′ at′ rest
+  write-item {vs} {rest} {d′} {at′} e c = record {
     long = ap length (c .bytes) ∙ length-put vs d at ∙ w .long;
     room = w .room;
     ends = omega (arith, w .ends, ap length e, length-append vs rest, c .end);
@@ -95,4 +95,4 @@ module _ {out₀ : List ℕ} {from : ℕ} {all d : List ℕ} {at : ℕ} {left : 
   pub write-done : left ≡ [] → Wrote out₀ from all d at
   write-done e = record { bytes = sym (ap (put d at) e) ∙ w .same; end = omega (arith, w .ends, ap length e) }
 
-pub ruleset writes = (write-start, write-byte, write-two, write-part, write-keep, write-done)
+pub ruleset writes = (write-start, write-byte, write-two, write-item, write-keep, write-done)

@@ -1,4 +1,4 @@
-// Internal: each function assumes that its parts lie in their slices and that the output has room.
+// Internal: each function assumes that what it copies lies in its slice and that the output has room.
 ghost use Prim.Native.Nat.{_+_, _≤_};
 ghost use mathlib.Core.Path.{_≡_};
 ghost use lib.ListN.{length, take, drop, replicate};
@@ -29,7 +29,7 @@ fn has_meaning(in_partial: bool, b: u8) -> bool
     false
 }
 
-// How many bytes a part of `src` takes where it is escaped.
+// How many bytes a slice of `src` takes where it is escaped.
 pub fn escaped_len(in_partial: bool, src: &[u8], from: usize, to: usize) -> usize
     requires { ⌜ (from ≤ to) × (to ≤ length (now src)) ⌝ }
     ensures { λ r. ⌜ r ≡ length (escape (inForm «in_partial») (drop from (take to (now (src .entry))))) ⌝ }
@@ -48,7 +48,7 @@ pub fn escaped_len(in_partial: bool, src: &[u8], from: usize, to: usize) -> usiz
     n
 }
 
-// A part of `src`, escaped.
+// A slice of `src`, escaped.
 pub fn copy_escaped(
     in_partial: bool,
     src: &[u8],
@@ -90,7 +90,7 @@ fn three(src: &[u8], from: usize, out: &mut [u8], at: usize) -> usize
     at + 3
 }
 
-// A part of `src` as it stands.
+// A slice of `src` as it stands.
 pub fn copy(src: &[u8], from: usize, to: usize, out: &mut [u8], at: usize) -> usize
     requires { ⌜ (from ≤ to) × (to ≤ length (now src)) × (at + length (drop from (take to (now src))) ≤ length (now out)) ⌝ }
     ensures { λ r. ⌜ Wrote (now (out .entry)) at (drop from (take to (now (src .entry)))) (now (out .exit)) r ⌝ }

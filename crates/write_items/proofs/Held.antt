@@ -22,11 +22,11 @@ use Rattle.write_escape.proofs.Encoded.{encodes-escape, encodes-tags, encodes-p
 use Rattle.write_items.specs.Items.{cellTag, cellTags, usedAt, rowAt, countAt, bytesTo, rowLine, Lie, RowLies, TextLies, textAt, tokenLine}
 use Rattle.write_items.proofs.Cells.{used-skip, used-stop}
 
-pieces-are : (ss ls d : List ℕ) (k : ℕ) (row : List Tag) → ((c : ℕ) → c < length row → cellTag ss ls d (k + c) ≡ encodes (getD row c [])) → cellTags ss ls d k (length row) ≡ map encodes row
+tags-are : (ss ls d : List ℕ) (k : ℕ) (row : List Tag) → ((c : ℕ) → c < length row → cellTag ss ls d (k + c) ≡ encodes (getD row c [])) → cellTags ss ls d k (length row) ≡ map encodes row
 unfolding cellTags
-pieces-are ss ls d k [] f = refl
-pieces-are ss ls d k (t ∷ row) f =
-    rw (rw add-zero at (f 0 (omega arith)), pieces-are ss ls d (k + 1) row (λ c h. let e : k + suc c ≡ k + 1 + c = omega arith in rw e at (f (suc c) (omega arith))))
+tags-are ss ls d k [] f = refl
+tags-are ss ls d k (t ∷ row) f =
+    rw (rw add-zero at (f 0 (omega arith)), tags-are ss ls d (k + 1) row (λ c h. let e : k + suc c ≡ k + 1 + c = omega arith in rw e at (f (suc c) (omega arith))))
 
 -- ---- the last tag of a row that is cut has bytes
 cut-rest : (t : Tag) (us vs : List Tag) → onto t us ≡ t ∷ vs → 1 ≤ length vs → us ≡ vs
@@ -129,7 +129,7 @@ module _ {r : Record} {d : Buffers} {s : Sentence} (h : Holds r d s) where
   unfolding rowAt
   row-is i l =
       let row = getD (rows s) i [] in
-      rw (count-is i l) (pieces-are (d .cell-starts-buf) (d .cell-lengths-buf) (d .tag-bytes-buf) (i * r .columns) row (λ c m.
+      rw (count-is i l) (tags-are (d .cell-starts-buf) (d .cell-lengths-buf) (d .tag-bytes-buf) (i * r .columns) row (λ c m.
       let k : c < r .columns = omega (arith, row-fits h i l) in
       tag-is (i * r .columns + c) (cell-fits h i c l k) ∙ ap encodes (cell-in-row h i c l k)))
 

@@ -17,7 +17,7 @@ use Rattle.write_items.specs.Items.{cellTag, cellTags, rowAt, countAt, b
 use Rattle.write_items.proofs.Cells.{fewer-lie, bytes-next, bytes-rise, used-few, used-bytes}
 use Rattle.write_items.proofs.Tags.{row-split}
 
--- a part from a up to c is one up to b and one from there
+-- a slice from a up to c is one up to b and one from there
 pub join : (d : List ℕ) (a b c : ℕ) → a ≤ b → b ≤ c → c ≤ length d → drop a (take b d) ++ drop b (take c d) ≡ drop a (take c d)
 join d a b c h k l =
     let n : b + (c - b) ≡ c = omega arith in
@@ -32,7 +32,7 @@ text-long ps text i t =
     let y = getD ps (i + 1) 0 in
     ap length (stretch-left text x y) ∙ length-take-le (y - x) (drop x text) (omega (arith, length-drop x text, t .within))
 
--- the tags of n cells from the k-th on take a slash each, and their bytes as one part
+-- the tags of n cells from the k-th on take a slash each, and their bytes as one slice
 record Flat (f : Form) (ss ls d : List ℕ) (k n : ℕ) : Type 0 where
   within : bytesTo ss ls (k + n) ≤ length d
   bytes : length (writeTags f (cellTags ss ls d k n)) ≡ n + length (escape f (drop (bytesTo ss ls k) (take (bytesTo ss ls (k + n)) d)))
@@ -41,14 +41,14 @@ first : (ss ls d : List ℕ) (k e : ℕ) → k ≤ e → Lie ss ls e (length d) 
 first ss ls d zero e u l = omega arith
 first ss ls d (suc k) e u l = l .within k u
 
-pieces-flat : (f : Form) (ss ls d : List ℕ) (k n : ℕ) → Lie ss ls (k + n) (length d) → Flat f ss ls d k n
+tags-flat : (f : Form) (ss ls d : List ℕ) (k n : ℕ) → Lie ss ls (k + n) (length d) → Flat f ss ls d k n
 unfolding cellTags writeTags cellTag escape
-pieces-flat f ss ls d k zero h = record { within = first ss ls d (k + 0) (k + 0) (omega arith) h; bytes = rw (add-zero, slice-empty (bytesTo ss ls k) d) }
-pieces-flat f ss ls d k (suc n) h =
+tags-flat f ss ls d k zero h = record { within = first ss ls d (k + 0) (k + 0) (omega arith) h; bytes = rw (add-zero, slice-empty (bytesTo ss ls k) d) }
+tags-flat f ss ls d k (suc n) h =
     let e : k + 1 + n ≡ k + suc n = omega arith in
     let m = bytes-next ss ls k in
     let s = h .cells .follows k (omega arith) in
-    let i = pieces-flat f ss ls d (k + 1) n (rw e h) in
+    let i = tags-flat f ss ls d (k + 1) n (rw e h) in
     let up : bytesTo ss ls k ≤ bytesTo ss ls (k + 1) = omega arith in
     let r = rw e at (bytes-rise ss ls (k + 1) n (rw e (h .cells))) in
     let w = rw e at (i .within) in
@@ -69,7 +69,7 @@ module _ (ss ls d : List ℕ) (m i : ℕ) {x y : ℕ} (p : x ≡ bytesTo ss ls (
   row-sum f n =
       let c = countAt ls m i in
       let e : i * m + c - i * m ≡ c = omega arith in
-      let g = pieces-flat f ss ls d (i * m) c (fewer-lie (i * m + c) (omega (arith, used-few ls (i * m) m)) h) in
+      let g = tags-flat f ss ls d (i * m) c (fewer-lie (i * m + c) (omega (arith, used-few ls (i * m) m)) h) in
       let v = writeTags f (cellTags ss ls d (i * m) c) in
       let z = replicate {A = ℕ} (n - c) 47 in
       rw (rw e at (row-split f n ss ls d m i refl), length-append v z, length-replicate {A = ℕ} (n - c) 47, p, q)

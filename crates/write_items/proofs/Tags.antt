@@ -7,24 +7,24 @@ use lib.ListN.{length, take, drop, getD, set, replicate, length-append, length-s
 use Rattle.sentence.specs.Sentence.{pad}
 use Rattle.sentence.specs.declared.Form.{Form}
 use Rattle.sentence.specs.Writing.{escape, writeTags}
-use Rattle.write_escape.specs.Wrote.{Wrote, wrote-both, wrote-long, Writing, write-start, write-byte, write-part, write-fits, write-done}
+use Rattle.write_escape.specs.Wrote.{Wrote, wrote-both, wrote-long, Writing, write-start, write-byte, write-item, write-fits, write-done}
 use Rattle.write_escape.proofs.Encoded.{tags-append, tags-absent}
 use Rattle.write_items.specs.Items.{cellTag, cellTags, rowAt, countAt, rowLine, Lie, RowLies, TextLies, textAt}
 use Rattle.write_items.proofs.Cells.{used-few, fewer-lie}
 
 -- ---- the tags from the j-th cell up to e
-pub pieces-step : (ss ls d : List ℕ) (j e : ℕ) → j < e → cellTags ss ls d j (e - j) ≡ cellTag ss ls d j ∷ cellTags ss ls d (j + 1) (e - (j + 1))
+pub tags-step : (ss ls d : List ℕ) (j e : ℕ) → j < e → cellTags ss ls d j (e - j) ≡ cellTag ss ls d j ∷ cellTags ss ls d (j + 1) (e - (j + 1))
 unfolding cellTags
-pieces-step ss ls d j e h = let k : e - j ≡ suc (e - (j + 1)) = omega arith in rw k
+tags-step ss ls d j e h = let k : e - j ≡ suc (e - (j + 1)) = omega arith in rw k
 
-pub pieces-none : (ss ls d : List ℕ) (j e : ℕ) → e ≤ j → cellTags ss ls d j (e - j) ≡ []
+pub tags-none : (ss ls d : List ℕ) (j e : ℕ) → e ≤ j → cellTags ss ls d j (e - j) ≡ []
 unfolding cellTags
-pieces-none ss ls d j e h = let k : e - j ≡ 0 = omega arith in rw k
+tags-none ss ls d j e h = let k : e - j ≡ 0 = omega arith in rw k
 
-pub pieces-count : (ss ls d : List ℕ) (k n : ℕ) → length (cellTags ss ls d k n) ≡ n
+pub tags-count : (ss ls d : List ℕ) (k n : ℕ) → length (cellTags ss ls d k n) ≡ n
 unfolding cellTags
-pieces-count ss ls d k zero = refl
-pieces-count ss ls d k (suc n) = ap suc (pieces-count ss ls d (k + 1) n)
+tags-count ss ls d k zero = refl
+tags-count ss ls d k (suc n) = ap suc (tags-count ss ls d (k + 1) n)
 
 -- ---- a loop that writes the tags up to e: it is at the j-th cell
 pub record Tagging (f : Form) (ss ls d : List ℕ) (e : ℕ) (out₀ : List ℕ) (at : ℕ) (all out : List ℕ) (j n : ℕ) : Type 0 where
@@ -42,7 +42,7 @@ module _ {f : Form} {ss ls d : List ℕ} {e : ℕ} {out₀ : List ℕ} {at : ℕ
   module _ {from to : ℕ} (h : j < e) (p : from ≡ getD ss j 0) (q : to ≡ getD ss j 0 + getD ls j 0) where
     tag-left : writeTags f (cellTags ss ls d j (e - j)) ≡ 47 ∷ (escape f (drop from (take to d)) ++ writeTags f (cellTags ss ls d (j + 1) (e - (j + 1))))
     unfolding writeTags cellTag
-    tag-left = rw (pieces-step ss ls d j e h, p, q)
+    tag-left = rw (tags-step ss ls d j e h, p, q)
 
     pub tag-byte : n < length out
     tag-byte = omega (arith, write-fits (t .writing) (47 ∷ []) _ tag-left)
@@ -55,12 +55,12 @@ module _ {f : Form} {ss ls d : List ℕ} {e : ℕ} {out₀ : List ℕ} {at : ℕ
     tag-turn w = record {
       upto = omega arith;
       lies = t .lies;
-      writing = write-part (write-byte (t .writing) tag-left) refl w;
+      writing = write-item (write-byte (t .writing) tag-left) refl w;
     }
 
   pub tags-done : e ≤ j → Wrote out₀ at all out n
   unfolding writeTags
-  tags-done h = write-done (t .writing) (rw (pieces-none ss ls d j e h))
+  tags-done h = write-done (t .writing) (rw (tags-none ss ls d j e h))
 
 pub ruleset tagging = (tags-start, tag-byte, tag-part, tag-turn, tags-done)
 
@@ -71,7 +71,7 @@ module _ (f : Form) (n : ℕ) (ss ls d : List ℕ) (m i : ℕ) {c : ℕ} (a : c 
 
   pub row-split : rowLine f n (rowAt ss ls d m i) ≡ listedTags ++ replicate (n - c) 47
   unfolding rowAt pad
-  row-split = let e : i * m + c - i * m ≡ c = omega arith in rw (e, ← a, pieces-count ss ls d (i * m) c, tags-append, tags-absent)
+  row-split = let e : i * m + c - i * m ≡ c = omega arith in rw (e, ← a, tags-count ss ls d (i * m) c, tags-append, tags-absent)
 
   module _ (out : List ℕ) (at : ℕ) (r : at + length (rowLine f n (rowAt ss ls d m i)) ≤ length out) where
     fits : at + length listedTags + (n - c) ≤ length out
@@ -90,7 +90,7 @@ module _ (f : Form) (n : ℕ) (ss ls d : List ℕ) (m i : ℕ) {c : ℕ} (a : c 
     pub row-full : n ≤ c → Wrote o₀ i₀ (rowLine f n (rowAt ss ls d m i)) o₁ i₁
     row-full h = let z : n - c ≡ 0 = omega arith in rw (row-split, z, append-nil) v
 
--- ---- two parts one after the other
+-- ---- two items one after the other
 module _ (vs ws : List ℕ) (out : List ℕ) (at : ℕ) (r : at + length (vs ++ ws) ≤ length out) where
   pub first-fits : at + length vs ≤ length out
   first-fits = omega (arith, length-append vs ws)

@@ -1,4 +1,4 @@
--- Parts of a buffer that are told by where they start and how long they are: the tags of tag bytes, and the rows of tags.
+-- Slices of a buffer that are told by where they start and how long they are: the tags of tag bytes, and the rows of tags.
 use Prim.Native.Nat.{ℕ, zero, suc, _+_, _-_, _*_, _≤_, _<_}
 use mathlib.Core.Path.{_≡_}
 use mathlib.Core.List.{List, [], _∷_, _++_}

@@ -1,4 +1,4 @@
--- What the calls that write or measure a part of the line ask, and what they give. Assumes nothing.
+-- What the calls that write or measure a stretch of the line ask, and what they give. Assumes nothing.
 use Prim.Native.Nat.{ℕ, zero, suc, _+_, _-_, _*_, _≤_, _<_}
 use mathlib.Core.Path.{_≡_, refl, sym, _∙_}
 use mathlib.Core.List.{List, [], _∷_, _++_}
@@ -6,7 +6,7 @@ use native.Mathlib.Omega.{arith}
 use lib.ListN.{length, take, drop, getD, set, length-append, length-set}
 use Rattle.sentence.specs.declared.Form.the-variants.{Partial as partial}
 use Rattle.sentence.specs.Writing.{escape}
-use Rattle.write_escape.specs.Wrote.{Wrote, wrote-long, Writing, write-start, write-byte, write-part, write-keep, write-fits, write-done}
+use Rattle.write_escape.specs.Wrote.{Wrote, wrote-long, Writing, write-start, write-byte, write-item, write-keep, write-fits, write-done}
 use Rattle.write_items.specs.Items.{countAt, bytesTo, Follow, TextLies, RowLies, charLine}
 use Rattle.write_items.proofs.Cells.{fewer}
 use Rattle.write_partial.specs.Line.{Spread, Rows, Narrow, stretchOf, beforeOf, restOf, slashesOf}
@@ -71,14 +71,14 @@ module _ (text bs ps ss ls ds : List ℕ) (m n : ℕ) where
 
       module _ {out₁ : List ℕ} {at₁ : ℕ} (c : Wrote out 0 (stretch 0 (start - 1 - 0)) out₁ at₁) where
         halfway : Writing out 0 (beforeOf text bs ps ss ls ds m n start) out₁ at₁ (charLine 0 text ps ss ls ds m (start - 1) ++ (32 ∷ []))
-        halfway = write-part begun refl c
+        halfway = write-item begun refl c
 
         pub before-then : TextLies ps text (start - 1) (start - 1 + 1) × RowLies ss ls ds m (start - 1) × (at₁ + length (charLine 0 text ps ss ls ds m (start - 1)) ≤ length out₁)
         before-then = (t .lies (start - 1) (omega arith), w .lies (start - 1) (omega arith), write-fits halfway (charLine 0 text ps ss ls ds m (start - 1)) _ refl)
 
         module _ {out₂ : List ℕ} {at₂ : ℕ} (o : Wrote out₁ at₁ (charLine 0 text ps ss ls ds m (start - 1)) out₂ at₂) where
           nearly : Writing out 0 (beforeOf text bs ps ss ls ds m n start) out₂ at₂ (32 ∷ [])
-          nearly = write-part halfway refl o
+          nearly = write-item halfway refl o
 
           pub before-byte : at₂ < length out₂
           before-byte = omega (arith, write-fits nearly (32 ∷ []) [] refl)

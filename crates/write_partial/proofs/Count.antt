@@ -1,4 +1,4 @@
--- How long the partial line of a sheet is, with a range hidden: a bound, the length of each part, and a loop that counts slashes. Assumes nothing.
+-- How long the partial line of a sheet is, with a range hidden: a bound, the length of each stretch, and a loop that counts slashes. Assumes nothing.
 use Prim.Native.Nat.{ℕ, zero, suc, _+_, _-_, _*_, _≤_, _<_}
 use mathlib.Core.Path.{_≡_, refl}
 use mathlib.Core.Bool.{Bool, true, false}
@@ -26,7 +26,7 @@ use Rattle.write_items.specs.Items.{countAt, bytesTo, RowLies, textAt, charLine
 use Rattle.write_items.proofs.Lengths.{join, text-long, row-bytes, char-sum}
 use Rattle.write_items.proofs.Room.{limited, most-few, row-most}
 use Rattle.write_partial.specs.Line.{shownOf, Spread, Rows, Narrow, stretchOf, coveredOf, beforeOf, restOf, slashesOf}
-use Rattle.write_partial.proofs.Parts.{pad-none}
+use Rattle.write_partial.proofs.Stretches.{pad-none}
 
 -- ---- the bound: every byte escaped, and c columns for each character
 shown-most : (n c : ℕ) (m : Mark) (r : List Tag) → n ≤ c → Row c r → length (encodes (writeTags partial (shown n m r))) ≤ c + 2 * rowBytes r
@@ -80,7 +80,7 @@ module _ (ss ls ds : List ℕ) (m : ℕ) where
       let p = row-bytes ss ls ds m i refl refl h in
       record { rises = rw e (p .0); within = rw e (p .1) }
 
-  -- of one part and another behind it
+  -- of one stretch and another behind it
   escaped-both : (b c e : ℕ) → Bytes b c → Bytes c e → escapedIn b c + escapedIn c e ≡ escapedIn b e
   escaped-both b c e p q =
       let x = bytesTo ss ls (b * m) in
@@ -120,7 +120,7 @@ module _ (text ps ss ls ds : List ℕ) (m : ℕ) where
             let z : b ≡ e = omega (arith, ltb-false b e q) in
             rw z (record { climbs = omega arith; bytes = record { rises = omega arith; within = grown (e - 1) e (omega arith) f .bytes .within } })
 
--- ---- the length of each part
+-- ---- the length of each stretch
 module _ (n : ℕ) (text bs ps ss ls ds : List ℕ) (m : ℕ) where
   slashed : (i : ℕ) → countAt ls m i ≤ n → countAt ls m i + ((if eqb (getD bs i 0) 1 then n else 0) - countAt ls m i) ≡ (if eqb (getD bs i 0) 1 then n else countAt ls m i)
   slashed i l = on (eqb (getD bs i 0) 1) refl

@@ -1,8 +1,8 @@
--- `Shown` has the sentence that is written, with a range hidden; `Parts` has its line, part by part; `Count` has how long the parts are; `Loops` has
--- what the loops over characters go by, and `Asks` what the calls for a part ask; `Widest` has the columns that are left; `Whole`
+-- `Shown` has the sentence that is written, with a range hidden; `Stretches` has its line, stretch by stretch; `Count` has how long these are; `Loops` has
+-- what the loops over characters go by, and `Asks` what the calls for a stretch ask; `Widest` has the columns that are left; `Whole`
 -- puts the line together.
 pub mod Shown
-pub mod Parts
+pub mod Stretches
 pub mod Count
 pub mod Loops
 pub mod Asks

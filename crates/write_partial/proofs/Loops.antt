@@ -12,7 +12,7 @@ use lib.ListN.{length, getD, set, replicate, length-append, length-replicate}
 use Rattle.laws.specs.If.{if_then_else_, if-true, if-false}
 use Rattle.sentence.specs.Writing.{sign}
 use Rattle.sheet.specs.Layout.{markOf}
-use Rattle.write_escape.specs.Wrote.{Wrote, wrote-long, Writing, write-start, write-byte, write-part, write-fits, write-done}
+use Rattle.write_escape.specs.Wrote.{Wrote, wrote-long, Writing, write-start, write-byte, write-item, write-fits, write-done}
 use Rattle.write_items.specs.Items.{countAt, Follow, RowLies, TextLies, textAt, charLine}
 use Rattle.write_partial.specs.Line.{Spread, Rows, stretchOf, coveredOf, bareOf, slashesOf}
 
@@ -44,7 +44,7 @@ module _ {text bs ps ss ls ds : List ℕ} {m : ℕ} {n upto : ℕ} {out₀ : Lis
 
     module _ {out′ : List ℕ} {at′ : ℕ} (c : Wrote out at (charLine w text ps ss ls ds m i) out′ at′) where
       behind : Writing out₀ at₀ all out′ at′ (sign (markOf (getD bs i 0)) ∷ stretchOf text bs ps ss ls ds m n (i + 1) (upto - (i + 1)))
-      behind = write-part (t .writing) stretch-left c
+      behind = write-item (t .writing) stretch-left c
 
       pub stretch-byte : at′ < length out′
       stretch-byte = omega (arith, write-fits behind (sign (markOf (getD bs i 0)) ∷ []) _ refl)
@@ -80,7 +80,7 @@ module _ {text ps : List ℕ} {upto : ℕ} {out₀ : List ℕ} {at₀ : ℕ} {al
 
     module _ {out′ : List ℕ} {at′ : ℕ} (c : Wrote out at (textAt ps text i (i + 1)) out′ at′) where
       cover-behind : Writing out₀ at₀ all out′ at′ (32 ∷ coveredOf text ps (i + 1) (upto - (i + 1)))
-      cover-behind = write-part (t .writing) cover-left c
+      cover-behind = write-item (t .writing) cover-left c
 
       pub cover-byte : at′ < length out′
       cover-byte = omega (arith, write-fits cover-behind (32 ∷ []) _ refl)

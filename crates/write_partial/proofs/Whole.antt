@@ -1,4 +1,4 @@
--- The line of a sheet put together from its parts, and measured part by part. Assumes nothing.
+-- The line of a sheet put together from its stretches, and measured one by one. Assumes nothing.
 use Prim.Native.Nat.{ℕ, _+_, _-_, _^_, _≤_, _<_}
 use mathlib.Core.Path.{_≡_, refl, sym, ap, _∙_}
 use mathlib.Core.Bool.{Bool, true, false}
@@ -13,11 +13,11 @@ use Rattle.sentence.proofs.Withheld.{out-before, out-behind, none-in}
 use Rattle.sheet.specs.declared.Record.{Record}
 use Rattle.sheet.specs.Layout.{Buffers, spell, Sheet}
 use Rattle.sheet.proofs.Look.{bounds}
-use Rattle.write_escape.specs.Wrote.{Wrote, Lined, lined, Writing, write-start, write-part, write-keep, write-fits, write-done}
+use Rattle.write_escape.specs.Wrote.{Wrote, Lined, lined, Writing, write-start, write-item, write-keep, write-fits, write-done}
 use Rattle.write_items.proofs.Lengths.{text-long}
 use Rattle.write_items.proofs.Held.{text-lies, row-lies}
 use Rattle.write_partial.specs.Line.{shownOf, Asked, Spread, Rows, Narrow}
-use Rattle.write_partial.proofs.Parts.{coveredIn, beforeIn, restIn, bareIn, textIn, line-whole, line-to-end, line-within}
+use Rattle.write_partial.proofs.Stretches.{coveredIn, beforeIn, restIn, bareIn, textIn, line-whole, line-to-end, line-within}
 use Rattle.write_partial.proofs.Count.{line-few, climbs, covered-sum}
 use Rattle.write_partial.proofs.Widest.{count-few}
 
@@ -62,7 +62,7 @@ module _ {r : Record} {d : Buffers} (h : Sheet r d) where
           (a .0, a .1, a .2, a .3, omega (arith, whole .ends, room))
 
       pub whole-done : {out′ : List ℕ} {at : ℕ} → Wrote out 0 (restIn d (r .columns) n 0 (r .n - 1)) out′ at → Lined all out out′ at
-      whole-done c = done (write-part whole (sym (append-nil _)) c)
+      whole-done c = done (write-item whole (sym (append-nil _)) c)
 
     -- another: first what is before it
     module _ (q : b ≡ e → ⊥) where
@@ -79,20 +79,20 @@ module _ {r : Record} {d : Buffers} (h : Sheet r d) where
 
         module _ {out₁ : List ℕ} {at₁ : ℕ} (c : Wrote out 0 (beforeIn d (r .columns) n b) out₁ at₁) where
           before-end : Writing out 0 all out₁ at₁ (coveredIn d b (r .n - 1 - b) ++ bareIn d n (r .n - 1))
-          before-end = write-part start to-end c
+          before-end = write-item start to-end c
 
           pub end-covers : Spread (d .char-pos-buf) (d .text-buf) (r .n - 1) × (b ≤ r .n - 1) × (at₁ + length (coveredIn d b (r .n - 1 - b)) ≤ length out₁)
           end-covers = (spread (r .n - 1) (omega arith), omega arith, write-fits before-end (coveredIn d b (r .n - 1 - b)) _ refl)
 
           module _ {out₂ : List ℕ} {at₂ : ℕ} (o : Wrote out₁ at₁ (coveredIn d b (r .n - 1 - b)) out₂ at₂) where
             last-left : Writing out 0 all out₂ at₂ (bareIn d n (r .n - 1))
-            last-left = write-part before-end refl o
+            last-left = write-item before-end refl o
 
             pub end-last : Spread (d .char-pos-buf) (d .text-buf) (r .n - 1 + 1) × (at₂ + length (bareIn d n (r .n - 1)) ≤ length out₂)
             end-last = (spread (r .n - 1 + 1) (omega arith), write-fits last-left (bareIn d n (r .n - 1)) [] (sym (append-nil _)))
 
             pub end-done : {out₃ : List ℕ} {at₃ : ℕ} → Wrote out₂ at₂ (bareIn d n (r .n - 1)) out₃ at₃ → Lined all out out₃ at₃
-            end-done u = done (write-part last-left (sym (append-nil _)) u)
+            end-done u = done (write-item last-left (sym (append-nil _)) u)
 
       -- within
       module _ (z : e ≡ r .n → ⊥) where
@@ -101,14 +101,14 @@ module _ {r : Record} {d : Buffers} (h : Sheet r d) where
 
         module _ {out₁ : List ℕ} {at₁ : ℕ} (c : Wrote out 0 (beforeIn d (r .columns) n b) out₁ at₁) where
           before-range : Writing out 0 all out₁ at₁ (coveredIn d b (e - b) ++ restIn d (r .columns) n e (r .n - 1))
-          before-range = write-part start within c
+          before-range = write-item start within c
 
           pub range-covers : Spread (d .char-pos-buf) (d .text-buf) e × (b ≤ e) × (at₁ + length (coveredIn d b (e - b)) ≤ length out₁)
           range-covers = (spread e m, l, write-fits before-range (coveredIn d b (e - b)) _ refl)
 
           module _ {out₂ : List ℕ} {at₂ : ℕ} (o : Wrote out₁ at₁ (coveredIn d b (e - b)) out₂ at₂) where
             rest-left : Writing out 0 all out₂ at₂ (restIn d (r .columns) n e (r .n - 1))
-            rest-left = write-part before-range refl o
+            rest-left = write-item before-range refl o
 
             pub range-rest : Spread (d .char-pos-buf) (d .text-buf) (r .n - 1 + 1) × Rows (d .cell-starts-buf) (d .cell-lengths-buf) (d .tag-bytes-buf) (r .columns) (r .n - 1 + 1) × (e ≤ r .n - 1)
                 × (r .n - 1 ≤ length (d .boundaries-buf)) × (at₂ + length (restIn d (r .columns) n e (r .n - 1)) ≤ length out₂)
@@ -117,7 +117,7 @@ module _ {r : Record} {d : Buffers} (h : Sheet r d) where
                 (a .0, a .1, a .2, a .3, write-fits rest-left (restIn d (r .columns) n e (r .n - 1)) [] (sym (append-nil _)))
 
             pub range-done : {out₃ : List ℕ} {at₃ : ℕ} → Wrote out₂ at₂ (restIn d (r .columns) n e (r .n - 1)) out₃ at₃ → Lined all out out₃ at₃
-            range-done u = done (write-part rest-left (sym (append-nil _)) u)
+            range-done u = done (write-item rest-left (sym (append-nil _)) u)
 
       pub before-asks : Spread (d .char-pos-buf) (d .text-buf) b × Rows (d .cell-starts-buf) (d .cell-lengths-buf) (d .tag-bytes-buf) (r .columns) b × (b ≤ length (d .boundaries-buf) + 1)
           × (length (beforeIn d (r .columns) n b) ≤ length out)

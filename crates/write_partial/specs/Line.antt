@@ -1,4 +1,4 @@
--- The partial line of a sheet with a range of its characters hidden, and the parts that it is made of.
+-- The partial line of a sheet with a range of its characters hidden, and the stretches that it is made of.
 use Prim.Native.Nat.{ℕ, zero, suc, _+_, _-_, _≤_, _<_}
 use Prim.Native.Char.{code as chr}
 use mathlib.Core.List.{List, [], _∷_, _++_}

@@ -1,4 +1,4 @@
-// Internal: each function assumes a checked sheet, or parts that lie in their slices, and the writers room for what they write.
+// Internal: each function assumes a checked sheet, or cells and positions that lie in their slices, and the writers room for what they write.
 use sheet::Record;
 use write_escape::unchecked::escaped_len;
 use write_escape::unchecked::repeat;

@@ -19,7 +19,7 @@ use Rattle.tokens.specs.declared.Step.the-variants.{Serves, Done}
 use Rattle.tokens.specs.Steps.{stepOf, marksIn, Bounded}
 use Rattle.tokens.proofs.Cursor.{following, of-done, marks-long}
 use Rattle.tokens.proofs.Held.{marks-held, bounded-held}
-use Rattle.write_escape.specs.Wrote.{Wrote, Lined, lined, Writing, write-start, write-part, write-fits, write-done}
+use Rattle.write_escape.specs.Wrote.{Wrote, Lined, lined, Writing, write-start, write-item, write-fits, write-done}
 use Rattle.write_items.specs.Items.{RowLies, TextLies, tokenLine}
 use Rattle.write_items.proofs.Held.{text-lies, row-lies, token-line}
 use Rattle.write_items.proofs.Room.{limited, most-few}
@@ -82,13 +82,13 @@ module _ {r : Record} {d : Buffers} {out₀ out : List ℕ} {n p : ℕ} {some : 
 
     module _ {o₁ : List ℕ} {n₁ : ℕ} (v : Wrote out n (gap some) o₁ n₁) where
       behind : Writing out₀ 0 (written tokenized (spell r d)) o₁ n₁ (tokenIn r d b e ++ leftFrom (spell r d) true e)
-      behind = write-part (t .writing) (left-next (t .sheet) some p f) v
+      behind = write-item (t .writing) (left-next (t .sheet) some p f) v
 
       pub token-asks : (1 ≤ e) × TextLies (d .char-pos-buf) (d .text-buf) b e × RowLies (d .cell-starts-buf) (d .cell-lengths-buf) (d .tag-bytes-buf) (r .columns) (e - 1) × (n₁ + length (tokenIn r d b e) ≤ length o₁)
       token-asks = (omega arith, text-lies (t .sheet) b e (omega arith) (f .within), row-lies (t .sheet) (e - 1) (omega arith), write-fits behind (tokenIn r d b e) _ refl)
 
       pub token-next : {o₂ : List ℕ} {n₂ : ℕ} → Wrote o₁ n₁ (tokenIn r d b e) o₂ n₂ → Tokening r d out₀ o₂ n₂ e true
-      token-next w = record { sheet = t .sheet; bounded = t .bounded; writing = write-part behind refl w }
+      token-next w = record { sheet = t .sheet; bounded = t .bounded; writing = write-item behind refl w }
 
   pub token-done : {a : Step} {q : ℕ} → a ≡ stepOf (nextToken (marksIn (r .n) (d .boundaries-buf)) (r .n) p) → a ≡ Done q → Lined (written tokenized (spell r d)) out₀ out n
   token-done x y = lined (omega (arith, t .writing .room)) (write-done (t .writing) (left-none (t .sheet) some p x y))

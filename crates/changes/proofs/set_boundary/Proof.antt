@@ -4,8 +4,9 @@ use lib.Dec.{leb, ltb}
 use mathlib.Core.Path.{refl, ap, _∙_}
 use borrow.Author.Tests.{leb-false, ltb-false}
 use native.Mathlib.Omega.{arith}
+use Rattle.laws.proofs.Facts.{neither}
 use Rattle.sheet.specs.declared.Answer.the-variants as answer
-use Rattle.sheet.proofs.Look.{broken, outside, inside, checked, neither, bounds}
+use Rattle.sheet.proofs.Look.{broken, outside, inside, checked, bounds}
 use Rattle.changes.specs.Changes.{boundaryAnswer}
 use Rattle.changes.proofs.Outcome.{lays-refused, lays-served}
 use borrow.Author.Needs.{needs}

@@ -2,7 +2,7 @@
 use Prim.Native.Nat.{_+_, _≤_}
 use native.Mathlib.Omega.{arith}
 use lib.ListN.{length}
-use Rattle.convert.proofs.Placed.{unknown, outside, in-range, annotated, few, placed-line, placed-refusal}
+use Rattle.convert.proofs.Placed.{unknown, outside, in-range, to-annotated, few, placed-line, placed-refusal}
 use borrow.Author.Needs.{needs}
 use Rattle.convert.proofs.convert.Statement.{statement}
 use Rattle.convert.proofs.convert.Tie as tie
@@ -38,7 +38,7 @@ part-between-end : tie.Need-part-between-end
 part-between-end c = search needs
 
 between-requires : tie.Need-between-requires
-between-requires c κs = search annotated
+between-requires c κs = search to-annotated
 
 enum-known-n : tie.Need-enum-known-n
 enum-known-n c = search needs

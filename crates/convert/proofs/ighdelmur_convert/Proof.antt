@@ -1,6 +1,4 @@
 -- `convert::ighdelmur_convert` meets its contract: places are small, so that the number fits.
-use Prim.Native.Nat.{_^_, _<_}
-use native.Mathlib.Omega.{arith}
 use Rattle.convert.proofs.Codes.{small-place, code-wrote, code-refused}
 use borrow.Author.Needs.{needs}
 use Rattle.convert.proofs.ighdelmur_convert.Statement.{statement}
@@ -15,20 +13,8 @@ enum-known-e c = search needs
 enum-known-r : tie.Need-enum-known-r
 enum-known-r c = search needs
 
-small : (c : tie.After-known-told2) → c .before .r .given .0 .0 .place < 2 ^ 32
-small c = search small-place
-
-mul-result : tie.Need-mul-result
-mul-result c = omega (arith, small c)
-
-add-result : tie.Need-add-result
-add-result c = omega (arith, small c)
-
-cast-result : tie.Need-cast-result
-cast-result c = search needs
-
-add-result-2 : tie.Need-add-result-2
-add-result-2 c = omega (arith, small (c .before))
+refusal-code-requires : tie.Need-refusal-code-requires
+refusal-code-requires c κs = search small-place
 
 same-length : tie.Need-same-length
 same-length c = search needs
@@ -44,16 +30,4 @@ returns-2 c = search code-refused
 
 pub ighdelmur-convert-spec : {M : Type 1} → statement M
 ighdelmur-convert-spec =
-    tie.close
-    (tie.spec
-    convert-requires
-    enum-known-e
-    enum-known-r
-    mul-result
-    add-result
-    cast-result
-    add-result-2
-    same-length
-    returns
-    same-length-2
-    returns-2)
+    tie.close (tie.spec convert-requires enum-known-e enum-known-r refusal-code-requires same-length returns same-length-2 returns-2)

@@ -8,8 +8,8 @@ use Rattle.exports.proofs.ighdelmur_read.Tie as tie
 no-reader-requires : tie.Need-no-reader-requires
 no-reader-requires c κs = search needs
 
-code-requires : tie.Need-code-requires
-code-requires c κs = search needs
+refusal-code-requires : tie.Need-refusal-code-requires
+refusal-code-requires c κs = search needs
 
 returns : tie.Need-returns
 returns c = search reads-16
@@ -17,8 +17,8 @@ returns c = search reads-16
 outside-requires : tie.Need-outside-requires
 outside-requires c κs = search needs
 
-code-requires-2 : tie.Need-code-requires-2
-code-requires-2 c κs = search near-start
+refusal-code-requires-2 : tie.Need-refusal-code-requires-2
+refusal-code-requires-2 c κs = search near-start
 
 returns-2 : tie.Need-returns-2
 returns-2 c = search reads-14
@@ -67,10 +67,10 @@ ighdelmur-read-spec =
     tie.close
     (tie.spec
     no-reader-requires
-    code-requires
+    refusal-code-requires
     returns
     outside-requires
-    code-requires-2
+    refusal-code-requires-2
     returns-2
     of-requires
     load-requires

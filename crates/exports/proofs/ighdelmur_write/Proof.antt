@@ -1,6 +1,7 @@
 -- `exports::ighdelmur_write` meets its contract.
 use Rattle.exports.proofs.Places.{near-written}
-use Rattle.exports.proofs.Told.{annotated, writes-16, writes-on}
+use Rattle.sentence.proofs.Forms.{annotated}
+use Rattle.exports.proofs.Told.{writes-16, writes-on}
 use borrow.Author.Needs.{needs}
 use Rattle.exports.proofs.ighdelmur_write.Statement.{statement}
 use Rattle.exports.proofs.ighdelmur_write.Tie as tie
@@ -8,8 +9,8 @@ use Rattle.exports.proofs.ighdelmur_write.Tie as tie
 no-writer-requires : tie.Need-no-writer-requires
 no-writer-requires c κs = search needs
 
-code-requires : tie.Need-code-requires
-code-requires c κs = search needs
+refusal-code-requires : tie.Need-refusal-code-requires
+refusal-code-requires c κs = search needs
 
 returns : tie.Need-returns
 returns c = search writes-16
@@ -34,7 +35,7 @@ ighdelmur-write-spec =
     tie.close
     (tie.spec
     no-writer-requires
-    code-requires
+    refusal-code-requires
     returns
     of-requires
     write-as-requires

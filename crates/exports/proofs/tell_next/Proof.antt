@@ -14,8 +14,8 @@ tell-step-requires c κs = search needs
 enum-known-next-2 : tie.Need-enum-known-next-2
 enum-known-next-2 c = search needs
 
-code-requires : tie.Need-code-requires
-code-requires c κs = search next-near
+refusal-code-requires : tie.Need-refusal-code-requires
+refusal-code-requires c κs = search next-near
 
 same-length : tie.Need-same-length
 same-length c = search needs
@@ -33,7 +33,7 @@ tell-next-spec =
     enum-known-next
     tell-step-requires
     enum-known-next-2
-    code-requires
+    refusal-code-requires
     same-length
     returns
     returns-2)

@@ -11,8 +11,8 @@ enum-known-answer c = search needs
 enum-known-answer-2 : tie.Need-enum-known-answer-2
 enum-known-answer-2 c = search needs
 
-code-requires : tie.Need-code-requires
-code-requires c κs = search number-near
+refusal-code-requires : tie.Need-refusal-code-requires
+refusal-code-requires c κs = search number-near
 
 returns : tie.Need-returns
 returns c = search told-length
@@ -22,4 +22,4 @@ returns-2 c = search told-number
 
 pub tell-number-spec : {M : Type 1} → statement M
 tell-number-spec =
-    tie.close (tie.spec enum-known-answer enum-known-answer-2 code-requires returns returns-2)
+    tie.close (tie.spec enum-known-answer enum-known-answer-2 refusal-code-requires returns returns-2)

@@ -8,8 +8,8 @@ use Rattle.exports.proofs.tell_read.Tie as tie
 enum-known-answer : tie.Need-enum-known-answer
 enum-known-answer c = search needs
 
-code-requires : tie.Need-code-requires
-code-requires c κs = search answer-near
+refusal-code-requires : tie.Need-refusal-code-requires
+refusal-code-requires c κs = search answer-near
 
 enum-known-answer-2 : tie.Need-enum-known-answer-2
 enum-known-answer-2 c = search needs
@@ -31,7 +31,7 @@ tell-read-spec =
     tie.close
     (tie.spec
     enum-known-answer
-    code-requires
+    refusal-code-requires
     enum-known-answer-2
     store-requires
     returns

@@ -8,8 +8,8 @@ use Rattle.exports.proofs.tell_step.Tie as tie
 outside-requires : tie.Need-outside-requires
 outside-requires c κs = search needs
 
-code-requires : tie.Need-code-requires
-code-requires c κs = search near-start
+refusal-code-requires : tie.Need-refusal-code-requires
+refusal-code-requires c κs = search near-start
 
 returns : tie.Need-returns
 returns c = search steps-14
@@ -52,7 +52,7 @@ tell-step-spec =
     tie.close
     (tie.spec
     outside-requires
-    code-requires
+    refusal-code-requires
     returns
     enum-known-step
     cast-span

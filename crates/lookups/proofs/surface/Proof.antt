@@ -3,10 +3,11 @@ use mathlib.Core.Path.{ap, _∙_}
 use Prim.Native.Nat.{_≤_}
 use lib.Dec.{leb, ltb}
 -- `lookups::surface` meets its contract. Assumes nothing.
+use Rattle.laws.proofs.Facts.{neither}
 use Rattle.sheet.specs.declared.Slice.the-variants.{Refused}
 use native.Mathlib.Omega.{arith}
 use borrow.Author.Tests.{leb-false, ltb-false}
-use Rattle.sheet.proofs.Look.{neither, broken, outside, inside, checked, bounds}
+use Rattle.sheet.proofs.Look.{broken, outside, inside, checked, bounds}
 use Rattle.lookups.specs.Answers.{surfaceAt}
 use borrow.Author.Needs.{needs}
 use Rattle.lookups.proofs.surface.Statement.{statement}

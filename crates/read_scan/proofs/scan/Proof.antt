@@ -1,6 +1,7 @@
 -- `read_scan::scan` meets its contract.
 use borrow.Author.Needs.{needs}
-use Rattle.read_scan.proofs.Scanning.{Scanning, Stands, scan-small, scan-start, stands, scan-go, scan-stop, scan-bad, scan-end, scan-long}
+use Rattle.read_counts.proofs.Spans.{Span}
+use Rattle.read_scan.proofs.Scanning.{Scanning, scan-small, scan-start, stands, scan-go, scan-stop, scan-bad, scan-end, scan-long}
 use lib.ListN.{length}
 use native.Mathlib.Omega.{arith}
 use Prim.Native.Nat.{_-_}
@@ -44,7 +45,7 @@ returns-2 : tie.Need-returns-2 Inv-loop μ-loop
 returns-2 c = search scan-stop
 
 -- the character that stands where the loop is
-stood : (c : tie.After-known-told Inv-loop μ-loop) → Stands (c .before .before .before .before .before .before .before .before .before .args .line .now) (c .before .before .before .before .loop .at) (c .before .value .given .0 .1 .0)
+stood : (c : tie.After-known-told Inv-loop μ-loop) → Span (c .before .before .before .before .before .before .before .before .before .args .line .now) (c .before .before .before .before .loop .at) (c .before .value .given .0 .1 .0)
 stood c = search stands
 
 tally-requires : tie.Need-tally-requires Inv-loop μ-loop

@@ -5,7 +5,8 @@ use native.Mathlib.Omega.{arith}
 use borrow.Author.Needs.{needs}
 use lib.ListN.{length}
 use Rattle.sheet.specs.Layout.{buffers}
-use Rattle.read_fill.proofs.Laying.{Laying, Span, lay-start, lay-stands, lay-small, lay-span, lay-some, lay-turning, lay-go, lay-finishing, lay-done, lay-long}
+use Rattle.read_counts.proofs.Spans.{Span}
+use Rattle.read_fill.proofs.Laying.{Laying, lay-start, lay-stands, lay-small, lay-span, lay-some, lay-turning, lay-go, lay-finishing, lay-done, lay-long}
 use Rattle.read_fill.proofs.unchecked.fill.Statement.{statement}
 use Rattle.read_fill.proofs.unchecked.fill.Tie as tie
 

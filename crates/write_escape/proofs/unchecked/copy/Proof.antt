@@ -1,4 +1,4 @@
--- `write_escape::unchecked::copy` meets its contract. The invariant: what is left to write is the part from i on.
+-- `write_escape::unchecked::copy` meets its contract. The invariant: what is left to write is the slice from i on.
 use Prim.Native.Nat.{_-_, _≤_}
 use lib.ListN.{take, drop}
 use borrow.Author.Needs.{needs}

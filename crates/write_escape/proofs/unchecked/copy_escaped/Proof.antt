@@ -1,4 +1,4 @@
--- `write_escape::unchecked::copy_escaped` meets its contract. The invariant: what is left to write is the part from i on, escaped.
+-- `write_escape::unchecked::copy_escaped` meets its contract. The invariant: what is left to write is the slice from i on, escaped.
 use Prim.Native.Nat.{_-_, _≤_}
 use lib.ListN.{take, drop}
 use borrow.Author.Needs.{needs}

@@ -1,6 +1,6 @@
 -- `write_escape::unchecked::escaped_len` meets its contract.
 
--- The invariant: with what the part from i on takes, n is the whole; a byte passed takes at most two.
+-- The invariant: with what the slice from i on takes, n is the whole; a byte passed takes at most two.
 use Prim.Native.Nat.{_-_, _≤_}
 use lib.ListN.{take, drop}
 use borrow.Author.Needs.{needs}

@@ -1,4 +1,4 @@
--- The partial line of a sheet with a range hidden is made of parts: the characters before the range, those in it, those behind it. Assumes nothing.
+-- The partial line of a sheet with a range hidden is made of stretches: the characters before the range, those in it, those behind it. Assumes nothing.
 use Prim.Native.Nat.{ℕ, zero, suc, _+_, _-_, _≤_, _<_}
 use mathlib.Core.Path.{_≡_, refl, sym, ap, _∙_}
 use mathlib.Core.Bool.{true, false}
@@ -79,7 +79,7 @@ absent-row : (n : ℕ) → encodes (writeTags partial (pad n [])) ≡ replicate 
 unfolding pad
 absent-row n = let z : n - 0 ≡ n = omega arith in encodes-tags partial (pad n []) ∙ rw (encodes-pad n [], z) (tags-absent partial n)
 
--- ---- the parts of a sheet
+-- ---- the stretches of a sheet
 module _ (d : Buffers) where
   abbrev pub textIn : ℕ → List ℕ
   textIn i = textAt (d .char-pos-buf) (d .text-buf) i (i + 1)
