@@ -1,20 +1,15 @@
 #!/usr/bin/env python3
 """Holds the table of docs/CHANGING.md, what a crate costs to prove again, to the sources, and makes it anew.
 
-Usage: python3 checks/costs.py             tells whether the table has every crate, its edits and what leans on it
-       python3 checks/costs.py --write     writes these anew; the seconds stay
-       python3 checks/costs.py --measure   proves each crate from nothing on a copy, one at a time, and writes its seconds too
+Usage: python3 checks/costs.py                tells whether the table has every crate, its edits and what leans on it
+       python3 checks/costs.py --write        writes these anew; the seconds stay
+       python3 checks/costs.py --write LOG    writes the seconds too, out of what the gate or 'rt prove' printed
 
-Status 0 where the table is right or was written, 1 where it is not, or a crate is not proved, 2 where the words were not understood.
-The seconds are the processor's, the programs' own and the system's together, so that a busy machine changes them little.
+Status 0 where the table is right or was written, 1 where it is not, or LOG has no time of a crate, 2 where the words were not understood.
 """
 import os
 import re
-import resource
-import shutil
-import subprocess
 import sys
-import tempfile
 from glob import glob
 
 PAGE = "docs/CHANGING.md"
@@ -55,33 +50,26 @@ def table(seconds):
     for name in leans:
         users = [crate for crate, below in leans.items() if name in below]
         again = above(name, leans)
-        told = f"{len(users)} crates" if len(users) > MANY else ", ".join(users) or "none"
+        named = f"{len(users)} crates" if len(users) > MANY else ", ".join(users) or "none"
         total = sum(seconds[crate] for crate in {name, *again}) if {name, *again} <= seconds.keys() else "–"
-        rows.append(f"| {name} | {seconds.get(name, '–')} | {edits(name)} | {told} | {len(again)} | {total} |\n")
+        rows.append(f"| {name} | {seconds.get(name, '–')} | {edits(name)} | {named} | {len(again)} | {total} |\n")
     return HEAD + "".join(rows)
 
 
-def measured(leans):
-    """The processor seconds of each crate's proof, each proved by itself on a copy of the repository."""
-    seconds = {}
-    with tempfile.TemporaryDirectory() as copy:
-        shutil.copy("crates.txt", copy)
-        shutil.copytree("crates", os.path.join(copy, "crates"))
-        for name in leans:
-            before = resource.getrusage(resource.RUSAGE_CHILDREN)
-            run = subprocess.run(["rt", "check", name], cwd=copy, stdin=subprocess.DEVNULL, capture_output=True, text=True)
-            after = resource.getrusage(resource.RUSAGE_CHILDREN)
-            if run.returncode:
-                sys.exit(f"{run.stdout[-2000:]}{run.stderr[-2000:]}\ncosts.py: {name} is not proved; {PAGE} was left as it was")
-            seconds[name] = round(after.ru_utime - before.ru_utime + after.ru_stime - before.ru_stime)
-            print(f"{name} {seconds[name]}", flush=True)
+def told(log, leans):
+    """The seconds of each crate's proof, as a log tells them."""
+    seconds = {name: int(took) for name, took in re.findall(r"^rt: (\w+) proved \((\d+) s\)", log, re.M)}
+    missing = [name for name in leans if name not in seconds]
+    if missing:
+        sys.exit(f"costs.py: the log has no time of {', '.join(missing)}; {PAGE} was left as it was")
     return seconds
 
 
 def main(words):
-    if words not in ([], ["--write"], ["--measure"]):
+    if words[:1] not in ([], ["--write"]) or len(words) > 2:
         print(__doc__, file=sys.stderr)
         return 2
+    log = read(words[1]) if words[1:] else None
     os.chdir(os.path.join(os.path.dirname(os.path.abspath(__file__)), ".."))
     page = read(PAGE)
     found = re.search(re.escape(HEAD) + r"(?:\|.*\n)+", page)
@@ -89,8 +77,8 @@ def main(words):
         print(f"{PAGE}: the table is not there; it begins with\n{HEAD}")
         return 1
     seconds = {name: int(took) for name, took in re.findall(r"^\| (\w+) \| (\d+) \|", found[0], re.M)}
-    if words == ["--measure"]:
-        seconds = measured(listed())
+    if log is not None:
+        seconds = told(log, listed())
     right = table(seconds)
     if words:
         with open(PAGE, "w", encoding="utf-8") as file:

@@ -1,7 +1,7 @@
 //! Each of the port's calls, asked with what it should answer at hand. Lent memory that is to be left alone is looked at too.
 
+use crate::answers::{Answer, Buffers, Form, Record, Refusal, AMPLE, LONGEST};
 use crate::original;
-use crate::parts::{Answer, Buffers, Form, Record, Refusal, AMPLE, LONGEST};
 use crate::port::{self, LONGEST_OUTPUT};
 use crate::rules;
 use oracle::draw::Draw;

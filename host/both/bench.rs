@@ -1,7 +1,7 @@
 //! The times of both sides on the same lines, in one process.
 
+use crate::answers::{Buffers, Form, Record, AMPLE, LONGEST};
 use crate::original;
-use crate::parts::{Buffers, Form, Record, AMPLE, LONGEST};
 use crate::port::{self, Port};
 use crate::{number, Failure, Outcome};
 use oracle::draw::Draw;

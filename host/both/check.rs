@@ -1,9 +1,9 @@
 //! Generated lines, read and written by both sides.
 
+use crate::answers::{visible, Answer, Form, Refusal, FORMS};
 use crate::asks::Asks;
 use crate::lines::{self, Asked};
 use crate::original;
-use crate::parts::{visible, Answer, Form, Refusal, FORMS};
 use crate::{number, rules, Failure, Outcome};
 use oracle::draw::Draw;
 use std::collections::BTreeMap;

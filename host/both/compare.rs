@@ -1,7 +1,7 @@
 //! Each line of files, read and written by both sides; docs/COMPARING.md is the guide.
 
+use crate::answers::{or_refused, seen, visible, Answer, Form, Refusal};
 use crate::original;
-use crate::parts::{or_refused, seen, visible, Answer, Form, Refusal};
 use crate::port::Port;
 use crate::{rules, Failure, Outcome};
 use std::collections::BTreeMap;

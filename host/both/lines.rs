@@ -1,6 +1,6 @@
 //! The lines that both sides are asked about. Everything is counted out or drawn from a seed.
 
-use crate::parts::Form;
+use crate::answers::Form;
 use oracle::cases;
 use oracle::draw::Draw;
 

@@ -1,12 +1,12 @@
 //! The original and the port in one process, on the same lines; usage.txt has the words.
 
+mod answers;
 mod asks;
 mod bench;
 mod check;
 mod compare;
 mod lines;
 mod original;
-mod parts;
 mod port;
 mod rules;
 

@@ -1,6 +1,6 @@
 //! What the original says of a line, in the shape of document 01's sheet.
 
-use crate::parts::{Answer, Buffers, Form, Refusal};
+use crate::answers::{Answer, Buffers, Form, Refusal};
 use oracle::answer;
 use vaporetto::sentence::inside;
 use vaporetto::{CharacterBoundary, Sentence};

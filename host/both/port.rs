@@ -1,6 +1,6 @@
 //! The port: its exported functions, called on lent buffers.
 
-use crate::parts::{Answer, Buffers, Form, Lent, Record, Refusal, AMPLE, LONGEST};
+use crate::answers::{Answer, Buffers, Form, Lent, Record, Refusal, AMPLE, LONGEST};
 
 /// The longest output that the conversion takes.
 pub const LONGEST_OUTPUT: usize = 1 << 20;
@@ -383,7 +383,7 @@ fn held([n, b, _, cells, g]: Record, lent: &Lent) -> Buffers {
 /// Hands the port's answers on as they are.
 #[cfg(not(wrong))]
 mod spoil {
-    use crate::parts::{Lent, Refusal};
+    use crate::answers::{Lent, Refusal};
 
     type Given = Result<u64, Refusal>;
 

@@ -1,6 +1,6 @@
 //! Document 01's refusals once more, with those that document 02 adds, written from their text and not from the original.
 
-use crate::parts::{Form, Lent, Record, Refusal};
+use crate::answers::{Form, Lent, Record, Refusal};
 use vaporetto::CharacterType;
 
 /// The refusal of a line, if there is one, wherever there is room enough.

@@ -1,7 +1,7 @@
 //! Makes wrong, of the port's answers, what the environment's `SPOIL` names: the call and the part, as `reader: text`. Only the build that tests
 //! the reports has it.
 
-use crate::parts::{Form, Lent, Refusal};
+use crate::answers::{Form, Lent, Refusal};
 use std::sync::OnceLock;
 
 type Given = Result<u64, Refusal>;
