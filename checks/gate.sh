@@ -7,7 +7,7 @@ work=$(mktemp -d) || exit 2
 trap 'rm -rf "$work"' EXIT
 here=$work/here cases=0
 mkdir -p "$work"/{bin,tools,away,tmp,home,debian/bin,sources} "$here"/{checks,crates/one}
-cp -R "$top/test.sh" "$top/.ci" "$top/host" "$here/"
+cp -R "$top/test.sh" "$top/notes.sh" "$top/.ci" "$top/host" "$here/"
 mv "$here/host/check.sh" "$here/host/whole.sh"
 echo 'one: # a crate' >"$here/crates.txt"
 echo 'Proved with: `kit 1`.' >"$here/README.md"
@@ -15,7 +15,7 @@ echo '// no code' >"$work/sources/sentence.rs"
 printf '        for (b, s) in sentence\n        sentence.set_predictor(self);\n' >"$work/sources/predictor.rs"
 
 # The real programs that the scripts may call; every other is a stand-in, or missing.
-for name in awk bash basename cat cp cut diff dirname env find flock grep head mkdir mktemp mv nproc rm sed sha256sum sh sort tail tee timeout wc xargs; do
+for name in awk bash basename cat cp cut diff dirname env find flock grep head mkdir mktemp mv nproc rm sed sha256sum sh sort tail tee timeout touch wc xargs; do
     ln -s "$(command -v "$name")" "$work/tools/$name" || exit 2
 done
 
@@ -183,7 +183,7 @@ without=rustc installs=yes ends 'the host without a compiler' 1 'nothing was run
 ends 'the host without the sources' 1 $'VAPORETTO_SRC to the folder vaporetto/src of a checkout)\n0 passed, 1 failed' VAPORETTO_SRC="$work/none" bash "$here/host/whole.sh"
 
 # The words of the host's scripts, and what they cannot do: status 2, and a line that says so.
-for name in build check-test compare-test count example interrupted keys link loader native record whole withhold; do
+for name in build check-test count example interrupted link loader native record whole withhold; do
     ends "$name with an unknown word" 2 "host/$name.sh: there is no '--more'" bash "$here/host/$name.sh" --more
     ends "the help of $name" 0 'Status 0: ' bash "$here/host/$name.sh" --help
 done
@@ -209,26 +209,32 @@ for words in build.sh 'record.sh --check'; do
     without=rustc installs=yes ends "$words without a compiler" 2 'this is missing: rustc 1.83' "$@"
     ends "$words where the compiler fails" 2 $'a word of the compiler\nhost/build.sh: the compiler failed' "$@"
 done
-for words in 'count exports' 'example convert' 'keys exports partial' 'loader exports' 'withhold exports'; do
-    read -r name library form <<<"$words"
-    set -- bash "$here/host/$name.sh" ${form:+"$form"}
+for name in count example loader withhold; do
+    set -- bash "$here/host/$name.sh"
     rm -rf "$here/target"
     without=rt ends "$name without rt" 2 "this is missing: rt, the kit's command" "$@"
-    ends "$name where rt fails" 2 $'a word on staticlib\nhost/'"$name.sh: 'rt staticlib $library' failed" RT_EXIT=1 "$@"
+    ends "$name where rt fails" 2 $'a word on staticlib\nhost/'"$name.sh: 'rt staticlib exports' failed" RT_EXIT=1 "$@"
     ends "$name where the compiler fails" 2 'the compiler of C failed' "$@"
 done
 without=python3 ends 'withhold without python3' 2 'this is missing: python3' bash "$here/host/withhold.sh"
-# The keys: what is missing, and the words. It needs no rustc.
-set -- bash "$here/host/keys.sh"
-without=rustc ends 'keys without rustc' 2 'the compiler of C failed' "$@" partial
-without=cc installs=yes ends 'keys without a compiler' 2 'this is missing: cc, a compiler of C (install gcc and libc6-dev; apt-get update failed' "$@" partial
-without=cc ends 'keys without a compiler, and another user' 2 'only root' USER_ID=1000 "$@" partial
-installs=yes ends 'keys on an Arm machine without the packages' 2 'this is missing: a compiler and an emulator for x86-64' MACHINE=aarch64 "$@" partial
-ends 'keys on another machine' 2 'this is riscv64' MACHINE=riscv64 "$@" partial
-ends 'keys without a form' 2 'no form is named: it is raw, tokenized or partial' "$@"
-ends 'keys with a word too many' 2 "one file at most: 'more' is one too many" "$@" raw /dev/null more
-ends 'keys of a file that is not there' 2 "'$work/none' is not there: name a file of notes" "$@" raw "$work/none"
-ends 'keys of a folder' 2 "'$work' is a folder: name a file of notes" "$@" raw "$work"
+# The desk: its words, and what is missing. Only `compare` needs the original.
+set -- bash "$here/notes.sh"
+ends 'the desk without a word' 2 'usage: bash notes.sh VERB' "$@"
+ends 'the help of the desk' 0 'usage: bash notes.sh VERB' "$@" --help
+ends 'the desk with an unknown verb' 2 "notes.sh: there is no 'twins'; it does check compare convert duplicates keys withhold" "$@" twins
+for verb in check compare convert duplicates keys withhold; do
+    without='rt rustc' ends "the help of $verb" 0 "usage: bash notes.sh $verb" "$@" "$verb" --help
+done
+rm -rf "$here/target"
+without=rt ends 'the desk without rt' 2 "notes.sh: this is missing: rt, the kit's command" VAPORETTO_SRC="$work/none" "$@" check raw /dev/null
+without=rustc installs=yes ends 'the desk without a compiler' 2 'this is missing: rustc 1.83' "$@" check raw /dev/null
+installs=yes ends 'the desk on an Arm machine without the packages' 2 'this is missing: a compiler and an emulator for x86-64' MACHINE=aarch64 IGHDELMUR_USR="$work/none" "$@" check raw /dev/null
+ends 'the desk on another machine' 2 'this is riscv64' MACHINE=riscv64 "$@" check raw /dev/null
+ends 'the desk where rt fails' 2 $'a word on staticlib\nnotes.sh: \'rt staticlib exports\' failed' RT_EXIT=1 "$@" check raw /dev/null
+ends 'the desk where the compiler fails' 2 $'a word of the compiler\nnotes.sh: the compiler failed' "$@" check raw /dev/null
+ends 'the desk that is not built' 2 'notes.sh: it could not be built, for the reason above; nothing was done' "$@" check raw /dev/null
+ends 'compare without the sources' 2 'VAPORETTO_SRC' VAPORETTO_SRC="$work/none" "$@" compare raw /dev/null
+ends 'compare where the compiler fails' 2 $'a word of the compiler\nhost/link.sh: the compiler failed' "$@" compare raw /dev/null
 set -- bash "$here/host/count.sh"
 without=valgrind installs=yes ends 'count without valgrind' 2 "this is missing: valgrind (install Debian's package valgrind; apt-get update failed" "$@"
 without=valgrind ends 'count without valgrind, and another user' 2 'only root' USER_ID=1000 "$@"
@@ -248,21 +254,36 @@ stand_in "$work/bin/cc" <<<'exit 0'
 ends 'count with a program that cannot be run' 2 'read, notes P: the program failed with status 127' "$@"
 ends 'withhold where a copy is another' 1 'a word of python3' bash "$here/host/withhold.sh"
 
-# The keys' program: built where it is not there or a source is newer, and how it ends.
-built='what it needs is proved and built first; this takes some minutes'
-set -- bash "$here/host/keys.sh" partial
-ends 'keys where the compiler writes nothing' 2 "cannot write $here/target/host/keys/keys" "$@"
-stand_in "$work/away/program" <<<'echo "form $1"; exit "$PROGRAM_EXIT"'
-stand_in "$work/bin/cc" <<<'while [ "$1" != -o ]; do shift; done; cp "$AWAY/program" "$2"'
-ends 'keys at the first call' 0 "$built"$'\n''form partial' PROGRAM_EXIT=0 "$@"
-without='rt cc' ends 'keys at the second call' 0 'form partial' PROGRAM_EXIT=0 "$@"
-[ "$text" = 'form partial' ] || wrong 'keys at the second call' 'it says more'
-ends 'keys that cannot read or write' 1 'form partial' PROGRAM_EXIT=1 "$@"
-ends 'keys whose program is ended' 1 'the program ended with status 139 before its end' PROGRAM_EXIT=139 "$@"
-for name in host/keys.c host/ighdelmur.h crates/one/lib.rt crates.txt; do
-    echo '# another line' >>"$here/$name"
-    ends "keys with a newer $name" 0 "$built" PROGRAM_EXIT=0 "$@"
+# The desk's program: built where it is not there or a source is newer, and how it ends.
+built='notes.sh: what it needs is proved and built first; this takes some minutes'
+set -- bash "$here/notes.sh" check raw /dev/null
+stand_in "$work/away/program" <<<'echo "asked $*"; exit "$PROGRAM_EXIT"'
+stand_in "$work/bin/rustc" <<'RUSTC'
+[ "$1" != --version ] || { echo "$RUSTC" && exit; }
+for word in "$@"; do
+    [ "$before" != --crate-name ] || name=$word
+    [ "$before" != --out-dir ] || folder=$word
+    before=$word
 done
+[ "$name" = "$LEFT_OUT" ] || cp "$AWAY/program" "$folder/$name"
+RUSTC
+ends 'the desk where the compiler writes nothing' 2 "cannot write $here/target/host/notes/notes" LEFT_OUT=notes "$@"
+ends 'the desk at the first call' 0 "$built"$'\n''asked check raw /dev/null' PROGRAM_EXIT=0 "$@"
+without='rt rustc cc' ends 'the desk at the second call' 0 'asked check' PROGRAM_EXIT=0 "$@"
+[ "$text" = 'asked check raw /dev/null' ] || wrong 'the desk at the second call' 'it says more'
+ends 'the desk that finds something' 1 'asked check' PROGRAM_EXIT=1 "$@"
+ends 'the desk that has trouble' 2 'asked check' PROGRAM_EXIT=2 "$@"
+ends 'the desk whose program is ended' 2 'notes.sh: the program ended with status 139 before its end' PROGRAM_EXIT=139 "$@"
+for name in host/notes/main.rs host/sides/port.rs host/tools.sh crates/one/lib.rt crates.txt; do
+    echo '# another line' >>"$here/$name"
+    ends "the desk with a newer $name" 0 "$built" PROGRAM_EXIT=0 "$@"
+done
+set -- bash "$here/notes.sh" compare raw /dev/null
+ends 'compare at the first call' 0 "$built"$'\n''asked compare raw /dev/null' PROGRAM_EXIT=0 "$@"
+without='rt rustc cc' ends 'compare at the second call' 0 'asked compare' PROGRAM_EXIT=0 "$@"
+[ "$text" = 'asked compare raw /dev/null' ] || wrong 'compare at the second call' 'it says more'
+echo '// more code' >>"$work/sources/sentence.rs"
+ends 'compare with newer sources of the original' 0 "$built" PROGRAM_EXIT=0 "$@"
 
 # A crate that crates.txt does not name.
 mkdir "$here/crates/on"

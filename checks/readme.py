@@ -1,7 +1,7 @@
 """The examples of README.md, run: what they print is what stands there.
 
-    python3 checks/readme.py               the lines of respell, which need no compiler of C
-    python3 checks/readme.py duplicates    the recipe that finds duplicates, which needs one; host/check.sh runs it
+    python3 checks/readme.py          the lines of respell, which need no compiler
+    python3 checks/readme.py notes    the call of notes.sh, which needs one; host/check.sh runs it
 """
 import os
 import re
@@ -11,7 +11,7 @@ import sys
 HERE = os.path.dirname(os.path.dirname(os.path.abspath(__file__)))
 os.chdir(HERE)
 with open("README.md", encoding="utf-8") as file:
-    BLOCKS = [re.sub(r"^    ", "", block, flags=re.M) for block in re.findall(r"(?:^    .*\n)+", file.read(), re.M)]
+    BLOCKS = [re.sub(r"^    ", "", block, flags=re.M) for block in re.findall(r"^    .*\n(?:(?:^\n)?^    .*\n)*", file.read(), re.M)]
 
 
 def example(start):
@@ -23,8 +23,9 @@ def example(start):
 
 
 def printed(command, given=""):
-    done = subprocess.run(["bash", "-c", "set -o pipefail\n" + command], input=given, capture_output=True, text=True, encoding="utf-8", timeout=600)
-    return done.stdout, done.stderr, done.returncode
+    """What a command prints and says, and its status."""
+    done = subprocess.run(["bash", "-c", command], input=given.encode(), stdout=subprocess.PIPE, stderr=subprocess.STDOUT, timeout=600)
+    return done.stdout.decode(), done.returncode
 
 
 def build(*words):
@@ -35,20 +36,20 @@ def build(*words):
 def respelled():
     lines, answers = example("TPa/x b\n")
     build("respell.sh")
-    return "the lines of respell", printed("bash respell.sh", lines), answers
+    return "the lines of respell", printed("bash respell.sh", lines), (answers, 0)
 
 
-def duplicates():
-    recipe, report = example("bash host/keys.sh partial NOTES")
-    build("host/keys.sh", "partial")
-    return "the duplicates of checks/notes.txt", printed(recipe.replace("NOTES", "checks/notes.txt")), report
+def notes():
+    call, report = example("bash notes.sh duplicates --between")
+    build("notes.sh", "check", "raw", "/dev/null")
+    return "the notes that stand in more than one sample", printed(call), (report, 1)
 
 
-if sys.argv[1:] not in ([], ["duplicates"]):
+if sys.argv[1:] not in ([], ["notes"]):
     print(__doc__.strip(), file=sys.stderr)
     sys.exit(2)
-name, got, wanted = duplicates() if sys.argv[1:] else respelled()
-if got != (wanted, "", 0):
-    print(f"{name}: {got!r}, and wanted was {(wanted, '', 0)!r}")
+name, got, wanted = notes() if sys.argv[1:] else respelled()
+if got != wanted:
+    print(f"{name}: {got!r}, and wanted was {wanted!r}")
     sys.exit(1)
 print(f"an example of README.md, with the outcome that stands there: {name}")

@@ -5,7 +5,7 @@ set -u
 no_words 'usage: host/check-test.sh
 Tests target/host/x86/both check, which host/link.sh builds. Status 0: all is well; 1: something is not; 2: it could not be run.' "$@"
 find_x86 || give_up_without "$(no_x86)"
-[ -x "$out/x86/both_wrong" ] || give_up_without "$out/x86/both_wrong (host/link.sh builds it)"
+[ -x "$out/x86/wrong/both" ] || give_up_without "$out/x86/wrong/both (host/link.sh builds it)"
 said=$(mktemp) || exit 2
 trap 'rm -f "$said"' EXIT
 count=0
@@ -13,7 +13,7 @@ count=0
 # What `check` ends with on some drawn lines where a part is made wrong; what it says is kept.
 asked() {
     local status=0
-    SPOIL=$1 "${run[@]}" "$out/x86/both_wrong" check --lines 300 >"$said" 2>&1 || status=$?
+    SPOIL=$1 "${run[@]}" "$out/x86/wrong/both" check --lines 300 >"$said" 2>&1 || status=$?
     echo "$status"
 }
 

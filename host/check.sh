@@ -58,11 +58,10 @@ fi
 if check 'the port and the original link into one program' "$here/link.sh"; then
     shown 'the port answers as the original on generated lines' "${run[@]}" "$out/x86/both" check
     shown 'check notices and names each part of a wrong port' "$here/check-test.sh"
-    check 'compare explains what differs on the sample, reports a wrong port, and says what it cannot do' "$here/compare-test.sh"
+    shown 'notes.sh does what its pages say, answers as a second reading, reports a wrong port, and says what it cannot do' python3 "$here/notes.py"
+    shown "README.md's examples of notes.sh" python3 "$here/../checks/readme.py" notes
 fi
 shown 'the withheld copies and the keys are those of a second reading' "$here/withhold.sh"
-shown 'keys.sh prints the keys of a second reading, and says what it cannot do' python3 "$here/keys.py"
-shown "README.md's recipe finds the duplicates of the sample" python3 "$here/../checks/readme.py" duplicates
 shown 'respell makes interrupted calls again, and goes on after short ones' "$here/interrupted.sh"
 check 'the examples in C and in Rust link the port and print what they should' "$here/example.sh"
 check 'the loaders in C and in Rust walk the cells of notes and print what they should' "$here/loader.sh"

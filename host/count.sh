@@ -3,9 +3,10 @@
 set -eu
 . "$(dirname "${BASH_SOURCE[0]}")/tools.sh"
 usage='usage: host/count.sh [ARCHIVES]
-Builds host/count.c with the static libraries of crates/exports and crates/convert, and prints a table in Markdown: how many instructions each call
-executes on the ten lines of each kind in host/samples/counted.txt, one call for each line.
-ARCHIVES: a folder with another libexports.a, another libconvert.a or both, which are counted instead; a call that they lack has no row.
+Builds host/count.c with the static library of crates/exports, and prints a table in Markdown: how many instructions each call executes on the ten
+lines of each kind in host/samples/counted.txt, one call for each line.
+ARCHIVES: a folder with another libexports.a, which is counted instead, and with the libconvert.a that earlier states have beside it; a call that they
+lack has no row.
 On an x86-64 machine valgrind counts, on an Arm one the emulator, by host/inside.c.
 Status 0: the table is printed; 2: it could not be counted.'
 archives=
@@ -18,14 +19,15 @@ find_x86 || give_up_without "$(no_x86)"
 out=$out/count
 building "$out"
 if [ -z "$archives" ]; then
-    libraries "$out/staticlib.log" exports convert
-    archives=${here%/*}/target/staticlib
+    libraries "$out/staticlib.log" exports
+    linked=("${here%/*}/target/staticlib/libexports.a")
+else
+    linked=()
+    for name in exports convert; do
+        [ ! -f "$archives/lib$name.a" ] || linked+=("$archives/lib$name.a")
+    done
+    [ ${#linked[@]} != 0 ] || give_up "there is no libexports.a or libconvert.a in $archives"
 fi
-linked=()
-for name in exports convert; do
-    [ ! -f "$archives/lib$name.a" ] || linked+=("$archives/lib$name.a")
-done
-[ ${#linked[@]} != 0 ] || give_up "there is no libexports.a or libconvert.a in $archives"
 
 # All addresses are found before the first call, so that no call has the search for one in it.
 "${cc[@]}" -std=c11 -Wall -Wextra -Werror -O -fno-inline -o "$out/counted" "$here/count.c" -Wl,-z,now -Wl,--whole-archive "${linked[@]}" -Wl,--no-whole-archive ||

@@ -1,6 +1,6 @@
 //! Reads each argument as a tokenized note and prints it in the partial form, or the number and the place of its refusal.
 
-#[link(name = "convert", kind = "static")]
+#[link(name = "exports", kind = "static")]
 extern "C" {
     /// As in ighdelmur.h; a slice is a pointer and a length.
     fn ighdelmur_convert(reader: u32, writer: u32, line: *const u8, length: usize, out: *mut u8, room: usize, at: usize) -> u64;

@@ -1,5 +1,5 @@
-/* The port for a host in C on x86-64: what the static libraries of crates/convert (ighdelmur_convert) and crates/exports (the rest) offer.
- * both/port.rs declares the same for Rust; `rt staticlib NAME` makes target/staticlib/libNAME.a.
+/* The port for a host in C on x86-64: all calls of the one static library to link, target/staticlib/libexports.a, which `rt staticlib exports` makes.
+ * sides/port.rs declares the same for Rust.
  *
  * A slice is a pointer and a length in elements. A pointer is never null, also where its length is 0, and a slice that a call writes into
  * overlaps no other. Any bytes and any numbers may be given. A refused call alters none of the memory that it is lent.

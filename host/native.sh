@@ -2,14 +2,15 @@
 # Prints the times of both sides on an Arm machine without an emulator: the port is compiled for the machine at hand, out of the code that its libraries are made of.
 set -eu
 . "$(dirname "${BASH_SOURCE[0]}")/tools.sh"
-usage='usage: host/native.sh [--rounds N]
-On an Arm machine: has the proved code of crates/exports and crates/convert compiled for the machine itself, by the kit'\''s compiler and with its settings,
-links it with the original, and prints the times of both sides as host/both.sh bench does, without an emulator.
+usage='usage: host/native.sh [--rounds N | --build]
+On an Arm machine: has the proved code of crates/exports compiled for the machine itself, by the kit'\''s compiler and with its settings, links it with
+the original, and prints the times of both sides as host/both.sh bench does, without an emulator.
+--build: only builds target/host/native/both and, for host/measure.py, target/host/native/notes.
 On an x86-64 machine host/both.sh bench has no emulator as it is.
 It needs rt, the original'\''s sources and a rustc for the machine; host/README.md says where they come from.
 Status 0: the times are printed; 1: the two do not answer alike; 2: words that are not understood, or a program that could not be built.'
 case ${1-} in
-'' | --rounds) ;;
+'' | --rounds | --build) ;;
 *) no_words "$usage" "$@" ;;
 esac
 machine=$(uname -m)
@@ -19,7 +20,7 @@ find_src || give_up_without "$(no_src)"
 find_rustc || give_up_without "$(no_rustc)"
 out=$out/native
 building "$out"
-libraries "$out/staticlib.log" exports convert
+libraries "$out/staticlib.log" exports
 
 # A kit like the one at hand, whose compiler compiles each module a second time, for this machine, with the same settings.
 kit=$(cd "$(dirname "$(rt doc)")/.." && pwd)
@@ -61,9 +62,11 @@ native() {
     [ -f "$out/module.o" ] && "${clang%/*}/llvm-ar" rc "$out/lib$1.a" "$out/module.o" || give_up "the kit's compiler made no $1 for this machine"
 }
 native exports
-native convert
 extract "$out"
 compile "$out" "$rustc" --crate-type rlib --crate-name vaporetto "$here/original/lib.rs"
 compile "$out" "$rustc" --crate-type rlib --crate-name oracle --extern vaporetto "$here/oracle/lib.rs"
-compile "$out" "$rustc" --crate-name both --check-cfg 'cfg(wrong)' --extern vaporetto --extern oracle "$here/both/main.rs"
+compile "$out" "$rustc" "${cfgs[@]}" --cfg original --crate-type rlib --crate-name sides --extern vaporetto --extern oracle "$here/sides/lib.rs"
+compile "$out" "$rustc" "${cfgs[@]}" --cfg original --crate-name both --extern vaporetto --extern oracle --extern sides "$here/both/main.rs"
+compile "$out" "$rustc" "${cfgs[@]}" --cfg original --crate-name notes --extern vaporetto --extern oracle --extern sides "$here/notes/main.rs"
+[ "${1-}" != --build ] || exit 0
 MACHINE="$machine, $(nproc) processors" EMULATOR='' exec "$out/both" bench "$@"

@@ -2,6 +2,8 @@
 
 here=$(cd "$(dirname "${BASH_SOURCE[0]}")" && pwd)
 out=${here%/*}/target/host
+# What the script is called in its own words.
+called=host/${0##*/}
 # The folder that Debian's packages stand in; checks/gate.sh sets down one of its own.
 usr=${IGHDELMUR_USR:-/usr}
 # The original needs rustc 1.83, and so does the Rust beside this file.
@@ -33,7 +35,6 @@ no_python() { echo "python3 (install it${why:+; $why})"; }
 no_valgrind() { echo "valgrind (install Debian's package valgrind${why:+; $why})"; }
 no_rustc() { echo "rustc 1.$needed or later with rustdoc, and cc (install them${why:+; $why})"; }
 no_own_c() { echo "cc, a compiler of C for this machine (install gcc and libc6-dev${why:+; $why})"; }
-no_c() { if [ "$(uname -m)" = x86_64 ]; then echo "cc, a compiler of C (install gcc and libc6-dev${why:+; $why})"; else no_x86; fi; }
 no_x86() {
     case $(uname -m) in
     x86_64) no_rustc ;;
@@ -89,37 +90,17 @@ find_x86() {
     esac
 }
 
-# The same without Rust: sets `cc` and `run`, or fails. On an Arm machine what `cc` links needs no library of x86-64 where it runs.
-find_c() {
-    find_run
-    case $(uname -m) in
-    x86_64)
-        command -v cc >/dev/null || { packages update && packages install gcc libc6-dev && command -v cc >/dev/null; } || return 1
-        cc=(cc)
-        ;;
-    aarch64)
-        crosses_c || { packages update && packages install "${cross_c[@]}" && crosses_c; } || return 1
-        cc=(x86_64-linux-gnu-gcc -static)
-        ;;
-    *) return 1 ;;
-    esac
-}
-
 # Sets `run` to what runs a program for x86-64: an emulator on an Arm machine, nothing elsewhere.
 find_run() {
     run=()
     [ "$(uname -m)" != aarch64 ] || run=("$usr/bin/qemu-x86_64")
 }
 
-# Whether Debian's compiler is there with its library for x86-64, and what C needs.
+# Whether Debian's compiler is there with its library for x86-64, a compiler of C for x86-64 with C's start files, and the emulator.
 crosses() {
     local library=("$usr"/lib/rustlib/x86_64-unknown-linux-gnu/lib/libstd-*.rlib)
-    (new_enough "$usr/bin/rustc") && [ -f "${library[0]}" ] && crosses_c
-}
-
-# Whether a compiler of C for x86-64 is there with C's start files, and the emulator.
-crosses_c() {
-    command -v x86_64-linux-gnu-gcc >/dev/null && [ -f "$usr/x86_64-linux-gnu/lib/Scrt1.o" ] && [ -x "$usr/bin/qemu-x86_64" ]
+    (new_enough "$usr/bin/rustc") && [ -f "${library[0]}" ] && command -v x86_64-linux-gnu-gcc >/dev/null && [ -f "$usr/x86_64-linux-gnu/lib/Scrt1.o" ] &&
+        [ -x "$usr/bin/qemu-x86_64" ]
 }
 
 # Debian's compiler, or only a linker where a compiler is there: rustc-web is the newer one where rustc itself is old.
@@ -132,11 +113,11 @@ install_rustc() {
     fi
 }
 
-# What an Arm machine needs to build and run programs for x86-64, and what of it C needs.
-cross_c=(gcc-x86-64-linux-gnu libc6-dev-amd64-cross qemu-user)
+# What an Arm machine needs to build and run programs for x86-64.
 install_cross() {
+    local others=(gcc-x86-64-linux-gnu libc6-dev-amd64-cross qemu-user)
     may_install && dpkg --add-architecture amd64 2>/dev/null && packages update || return 1
-    packages install rustc-web libstd-rust-web-dev:amd64 "${cross_c[@]}" || packages install rustc libstd-rust-dev:amd64 "${cross_c[@]}"
+    packages install rustc-web libstd-rust-web-dev:amd64 "${others[@]}" || packages install rustc libstd-rust-dev:amd64 "${others[@]}"
 }
 
 # Debian's package manager, where there is one and it may be used. It takes nothing away.
@@ -165,7 +146,7 @@ may_install() {
 
 # Ends a script that cannot do its work with status 2: give_up LINE..
 give_up() {
-    printf "host/${0##*/}: %s\n" "$@" >&2
+    printf "$called: %s\n" "$@" >&2
     exit 2
 }
 
@@ -178,7 +159,7 @@ give_up_without() {
 no_words() {
     [ $# != 1 ] || return 0
     [ "$2" != --help ] || { echo "$1" && exit 0; }
-    echo "host/${0##*/}: there is no '$2'" >&2
+    echo "$called: there is no '$2'" >&2
     echo "$1" >&2
     exit 2
 }
@@ -215,9 +196,12 @@ extract() {
     grep -q 'sentence\.set_predictor(self);' "$1/decision.rs" || give_up "$src/predictor.rs has no boundary decision where it was"
 }
 
+# What the host's Rust may be told: whether the original is built in, and whether the port can be made wrong.
+cfgs=(--check-cfg 'cfg(original)' --check-cfg 'cfg(wrong)')
+
 # A compiler's call with the settings that all the host's Rust has, for what it builds into a folder: compile FOLDER CALL..
 compile() {
     local folder=$1
     shift
-    VAPORETTO_SRC=$src EXTRACT=$folder "$@" --edition 2021 -O -L "$folder" --out-dir "$folder" >&2 || give_up 'the compiler failed: its words are above'
+    VAPORETTO_SRC=${src-} EXTRACT=$folder "$@" --edition 2021 -O -L "$folder" --out-dir "$folder" >&2 || give_up 'the compiler failed: its words are above'
 }

@@ -1,10 +1,10 @@
 //! Each of the port's calls, asked with what it should answer at hand. Lent memory that is to be left alone is looked at too.
 
-use crate::answers::{Answer, Buffers, Form, Record, Refusal, AMPLE, LONGEST};
-use crate::original;
-use crate::port::{self, LONGEST_OUTPUT};
-use crate::rules;
 use oracle::draw::Draw;
+use sides::answers::{Answer, Buffers, Form, Record, Refusal, AMPLE, LONGEST};
+use sides::original;
+use sides::port::{self, LONGEST_OUTPUT};
+use sides::rules;
 use std::fmt::{Debug, Display};
 
 /// What a call on the port said that it should not have said.

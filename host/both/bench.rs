@@ -1,10 +1,10 @@
 //! The times of both sides on the same lines, in one process.
 
-use crate::answers::{Buffers, Form, Record, AMPLE, LONGEST};
-use crate::original;
-use crate::port::{self, Port};
 use crate::{number, Failure, Outcome};
 use oracle::draw::Draw;
+use sides::answers::{Buffers, Form, Record, AMPLE, LONGEST};
+use sides::original;
+use sides::port::{self, Port};
 use std::env::var;
 use std::hint::black_box;
 use std::io::{self, stdout, Write};
@@ -53,7 +53,7 @@ pub fn command(words: &[&str]) -> Outcome {
     writeln!(out, "Machine: {}; {run_by}.", var("MACHINE").unwrap_or("unknown".into()))?;
     let heading = "| lines | form | work | Rust ns/line | port ns/line | Rust ns/byte | port ns/byte | ratio |\n|---|---|---|---|---|---|---|---|";
     writeln!(out, "Medians of {rounds} rounds, both sides in turn. No buffer is cleared between lines; the one call of the port makes its own anew each time.\n\n{heading}")?;
-    let (mut draw, mut port) = (Draw::new(1), Port::new());
+    let (mut draw, mut port) = (Draw::new(1), Port::default());
     let kinds = [("notes", true, 20, 400, 200), ("plain", false, 20, 400, 200), ("4,096 bytes", true, 4096, 4096, 12)];
     for (name, tagged, shortest, longest, count) in kinds {
         for form in [Form::Tokenized, Form::Partial] {
@@ -69,7 +69,7 @@ pub fn command(words: &[&str]) -> Outcome {
 }
 
 /// A line of words, with two tags each or with none, of so many bytes; the last tag is drawn out to the shortest length.
-fn line(draw: &mut Draw, form: Form, tagged: bool, shortest: usize, longest: usize) -> String {
+pub fn line(draw: &mut Draw, form: Form, tagged: bool, shortest: usize, longest: usize) -> String {
     let goal = shortest + draw.below(longest - shortest + 1);
     let mut line = word(draw, form, tagged);
     loop {

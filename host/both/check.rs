@@ -1,11 +1,12 @@
 //! Generated lines, read and written by both sides.
 
-use crate::answers::{visible, Answer, Form, Refusal, FORMS};
 use crate::asks::Asks;
 use crate::lines::{self, Asked};
-use crate::original;
-use crate::{number, rules, Failure, Outcome};
+use crate::{number, Failure, Outcome};
 use oracle::draw::Draw;
+use sides::answers::{visible, Answer, Form, Refusal, FORMS};
+use sides::original;
+use sides::rules;
 use std::collections::BTreeMap;
 use std::io::{self, stdout, Write};
 use std::time::{Duration, Instant};

@@ -1,8 +1,8 @@
 //! The lines that both sides are asked about. Everything is counted out or drawn from a seed.
 
-use crate::answers::Form;
 use oracle::cases;
 use oracle::draw::Draw;
+use sides::answers::Form;
 
 /// A line, and where it comes from.
 pub type Asked = (&'static str, Vec<u8>);

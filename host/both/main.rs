@@ -1,14 +1,10 @@
 //! The original and the port in one process, on the same lines; usage.txt has the words.
 
-mod answers;
 mod asks;
 mod bench;
 mod check;
-mod compare;
 mod lines;
-mod original;
-mod port;
-mod rules;
+mod many;
 
 use std::io::{self, Write};
 use std::process::ExitCode;
@@ -51,8 +47,9 @@ fn outcome() -> Outcome {
     let words: Vec<&str> = words.iter().map(String::as_str).collect();
     match words[..] {
         ["check", ref words @ ..] => check::command(words),
-        ["compare", ref words @ ..] => compare::command(words),
         ["bench", ref words @ ..] => bench::command(words),
+        ["notes", ref words @ ..] => many::notes(words),
+        ["duplicates", ref words @ ..] => many::duplicates(words),
         ["--help"] => {
             io::stdout().write_all(include_bytes!("usage.txt"))?;
             Ok(true)

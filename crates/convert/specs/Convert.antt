@@ -1,13 +1,10 @@
--- The conversion by form numbers, behind a place of an output, and the host's number for its answer.
+-- The conversion by form numbers, behind a place of an output.
 use Prim.Native.Nat.{ℕ, _-_}
 use mathlib.Core.Bool.{Bool, _||_}
 use mathlib.Core.List.{List}
 use lib.Dec.{ltb}
 use Rattle.sentence.specs.Forms.{noReader, noWriter, formOf}
-use Rattle.sentence.specs.Refusals.{refusalCode}
 use Rattle.convert_buffers.specs.Between.{Outcome, between}
-use Rattle.convert_buffers.specs.declared.Converted.{Converted}
-use Rattle.convert_buffers.specs.declared.Converted.the-variants.{Wrote, Refused}
 
 -- one of two numbers is no form to read, or no form to write
 unfoldable pub unknownForms : ℕ → ℕ → Bool
@@ -20,8 +17,3 @@ outOfRange size at = ltb 1048576 size || ltb size at
 -- the conversion by form numbers, into an output of that size behind a place
 unfoldable pub conversion : ℕ → ℕ → List ℕ → ℕ → ℕ → Outcome
 conversion reader writer x size at = between (unknownForms reader writer) (outOfRange size at) (formOf reader) (formOf writer) (size - at) x
-
--- an answer as the host's number: the end place, or the refusal's number
-unfoldable pub codeOf : Converted → ℕ
-codeOf (Wrote e) = e
-codeOf (Refused r) = refusalCode r

@@ -1,13 +1,12 @@
-// The conversion of a line from one form to another, for programs and for the host.
+// The conversion of a line from one form to another.
 use convert_buffers::Converted;
 use sentence::Form;
 use sentence::NO_FORM;
 use sentence::Refusal;
-use sentence::unchecked::refusal_code;
 ghost use mathlib.Core.Path.{_≡_};
 ghost use lib.ListN.{length};
 ghost use Rattle.convert_buffers.specs.Between.{Converts};
-ghost use Rattle.convert.specs.Convert.{unknownForms, outOfRange, conversion, codeOf};
+ghost use Rattle.convert.specs.Convert.{unknownForms, outOfRange, conversion};
 
 // Whether a number is no form to read, or no form to write.
 fn unknown_forms(reader: u32, writer: u32) -> bool
@@ -42,24 +41,5 @@ pub fn convert(reader: u32, writer: u32, line: &[u8], out: &mut [u8], at: usize)
     match convert_buffers::unchecked::between(from, to, line, &mut out[at..]) {
         Converted::Wrote(n) => Converted::Wrote(at + n),
         Converted::Refused(r) => Converted::Refused(r),
-    }
-}
-
-// The conversion for a host in another language: the answer as one number. Where the line is written it is the end place; else it is the refusal's
-// number, 2^63 plus 256 times its place plus its number.
-#[no_mangle]
-pub extern "C" fn ighdelmur_convert(
-    reader: u32,
-    writer: u32,
-    line: &[u8],
-    out: &mut [u8],
-    at: usize,
-) -> u64
-    ensures { λ r. ⌜ Converts codeOf (conversion reader writer (now (line .entry)) (length (now (out .entry))) at) at (now (out .entry)) r
-        (now (out .exit)) ⌝ }
-{
-    match convert(reader, writer, line, out, at) {
-        Converted::Wrote(e) => e as u64,
-        Converted::Refused(r) => refusal_code(r),
     }
 }

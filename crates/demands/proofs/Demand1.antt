@@ -53,8 +53,8 @@ use Rattle.write.specs.Answers.{Puts, lineOrder, lineOf}
 use Rattle.convert_buffers.specs.declared.Converted.{Converted}
 use Rattle.convert_buffers.specs.Between.{Outcome, writes, between, overfull, answerOf, outputOf, Converts}
 use Rattle.convert_buffers.specs.Between.{refuses as no-line}
-use Rattle.convert.specs.Convert.{unknownForms, outOfRange, conversion, codeOf}
-use Rattle.exports.specs.Exports.{readFirst, readCode, readNumbers, hostAnswer, hostLeaves, HostReads, hostWriteOrder, numberCode, HostWrites, nearest, spanned, stepCode, stepSpan, HostSteps}
+use Rattle.convert.specs.Convert.{unknownForms, outOfRange, conversion}
+use Rattle.exports.specs.Exports.{codeOf, readFirst, readCode, readNumbers, hostAnswer, hostLeaves, HostReads, hostWriteOrder, numberCode, HostWrites, nearest, spanned, stepCode, stepSpan, HostSteps}
 use Rattle.respelling.proofs.Runs.{finished}
 use Rattle.respelling.proofs.Whole.{only-whole}
 use Rattle.demands.specs.Demand1.{Said, serves, refuses, ofAnswer, ofNumber, ofSlice, ofNext, ofConverted, Allowed, exactly, allows, oneOf, Answers, Settled, Blanked, formRefusals, lineRefusals, readRefusals, updateRefusals, askRefusals, resetRefusals, fillRefusals, copyRefusals, passRefusals, convertRefusals, Stands, Demand1}

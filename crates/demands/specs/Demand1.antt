@@ -42,8 +42,8 @@ use Rattle.write.specs.Answers.{lineOf, Written, copyOf, Withholds, keyOf, Keye
 use Rattle.convert_buffers.specs.declared.Converted.{Converted}
 use Rattle.convert_buffers.specs.declared.Converted.the-variants as converted
 use Rattle.convert_buffers.specs.Between.{overfull, Converts}
-use Rattle.convert.specs.Convert.{conversion, codeOf}
-use Rattle.exports.specs.Exports.{readCode, HostReads, numberCode, HostWrites, nearest, HostWithholds, HostKeys, stepCode, HostSteps}
+use Rattle.convert.specs.Convert.{conversion}
+use Rattle.exports.specs.Exports.{codeOf, readCode, HostReads, numberCode, HostWrites, nearest, HostWithholds, HostKeys, stepCode, HostSteps}
 use Rattle.respelling.specs.Respell.{respell, whole}
 use Rattle.respelling.specs.Run.{State, Run, goes}
 

@@ -1,3 +1,5 @@
+pub mod Lengths
+pub mod Codes
 pub mod Places
 pub mod Told
 pub mod Once

@@ -35,8 +35,8 @@ use Rattle.tokens.specs.declared.Next.the-variants as next
 use Rattle.convert_buffers.specs.Between.{Outcome, refuses, between, answerOf, outputOf}
 use Rattle.convert_buffers.specs.declared.Converted.the-variants as converted
 use Rattle.convert.specs.Convert.{unknownForms, outOfRange, conversion}
-use Rattle.convert.proofs.Lengths.{written-small}
-use Rattle.convert.proofs.Codes.{small-place}
+use Rattle.exports.proofs.Lengths.{written-small}
+use Rattle.exports.proofs.Codes.{small-place}
 use Rattle.exports.specs.Exports.{NearAnswer, NearNumber, nearest, nearestIn, NearNext}
 
 -- ---- a refusal at 0

@@ -1,4 +1,4 @@
--- What the host's calls besides the conversion answer as one number, and what they leave in lent memory.
+-- What the host's calls answer as one number, and what they leave in lent memory.
 use Prim.Native.Nat.{ℕ, _^_}
 use mathlib.Core.Path.{_≡_}
 use mathlib.Core.Bool.{false}
@@ -24,6 +24,14 @@ use Rattle.tokens.specs.Steps.{nextOf}
 use Rattle.tokens.specs.declared.Step.the-variants.{Serves, Done}
 use Rattle.tokens.specs.declared.Next.{Next}
 use Rattle.tokens.specs.declared.Next.the-variants as next
+use Rattle.convert_buffers.specs.declared.Converted.{Converted}
+use Rattle.convert_buffers.specs.declared.Converted.the-variants as converted
+
+-- ---- conversion
+-- the end place, or the refusal's number
+unfoldable pub codeOf : Converted → ℕ
+codeOf (converted.Wrote e) = e
+codeOf (converted.Refused r) = refusalCode r
 
 -- ---- reading
 -- N, B, columns, cells and G

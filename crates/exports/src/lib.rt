@@ -1,5 +1,6 @@
-// The host's calls besides the conversion: a line read into lent buffers, a sheet written, its withheld copy, its key, a step of the token cursor. Each
+// The host's calls: a line converted, a line read into lent buffers, a sheet written, its withheld copy, its key, a step of the token cursor. Each
 // answers one number; a refusal is 2^63 plus 256 times its place plus its number.
+use convert_buffers::Converted;
 use sentence::Form;
 use sentence::NO_FORM;
 use sentence::Refusal;
@@ -17,8 +18,29 @@ ghost use Rattle.sentence.specs.Reading.{Annotated};
 ghost use Rattle.sheet.specs.Layout.{lentAfter, lentBefore};
 ghost use Rattle.tokens.specs.declared.Next.the-variants.{Is};
 ghost use Rattle.write.specs.Answers.{Written};
-ghost use Rattle.exports.specs.Exports.{numbersOf, ReadTold, NearAnswer, HostReads, recordIn, numberCode};
+ghost use Rattle.convert_buffers.specs.Between.{Converts};
+ghost use Rattle.convert.specs.Convert.{conversion};
+ghost use Rattle.exports.specs.Exports.{codeOf, numbersOf, ReadTold, NearAnswer, HostReads, recordIn, numberCode};
 ghost use Rattle.exports.specs.Exports.{NearNumber, HostWrites, nearest, nearestIn, HostWithholds, HostKeys, Tells, NearNext, HostSteps};
+
+// Reads a line in the form `reader` (0 raw, 1 tokenized, 2 partial) and writes it in the form `writer` (1 or 2) into the output, behind the bytes
+// before `at`: the end place.
+#[no_mangle]
+pub extern "C" fn ighdelmur_convert(
+    reader: u32,
+    writer: u32,
+    line: &[u8],
+    out: &mut [u8],
+    at: usize,
+) -> u64
+    ensures { λ r. ⌜ Converts codeOf (conversion reader writer (now (line .entry)) (length (now (out .entry))) at) at (now (out .entry)) r
+        (now (out .exit)) ⌝ }
+{
+    match convert::convert(reader, writer, line, out, at) {
+        Converted::Wrote(e) => e as u64,
+        Converted::Refused(r) => refusal_code(r),
+    }
+}
 
 // Stores what a sentence counts in the first five numbers.
 fn store(r: Record, numbers: &mut [u64])

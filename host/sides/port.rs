@@ -5,15 +5,12 @@ use crate::answers::{Answer, Buffers, Form, Lent, Record, Refusal, AMPLE, LONGES
 /// The longest output that the conversion takes.
 pub const LONGEST_OUTPUT: usize = 1 << 20;
 
-/// What the static libraries of crates/convert and crates/exports offer: a slice is a pointer and a length.
+/// What the static library of crates/exports offers: a slice is a pointer and a length.
 mod exported {
-    #[link(name = "convert", kind = "static")]
-    extern "C" {
-        pub fn ighdelmur_convert(reader: u32, writer: u32, line: *const u8, length: usize, out: *mut u8, room: usize, at: usize) -> u64;
-    }
-
     #[link(name = "exports", kind = "static")]
     extern "C" {
+        pub fn ighdelmur_convert(reader: u32, writer: u32, line: *const u8, length: usize, out: *mut u8, room: usize, at: usize) -> u64;
+
         pub fn ighdelmur_read(
             form: u32,
             line: *const u8,
@@ -330,27 +327,68 @@ pub struct Port {
     out: Vec<u8>,
 }
 
-impl Port {
-    pub fn new() -> Self {
+impl Default for Port {
+    fn default() -> Self {
         Self { buffers: Buffers::filled(AMPLE, 0), out: vec![0; LONGEST] }
     }
+}
 
-    /// The line converted to a form, with the most room that the conversion takes.
+impl Port {
+    /// What refuses the line, if something does.
+    pub fn refusal(&mut self, form: Form, line: &[u8]) -> Option<Refusal> {
+        self.read(form, line).err()
+    }
+
+    /// The key of the line's sentence.
+    pub fn key(&mut self, form: Form, line: &[u8]) -> Result<&[u8], Refusal> {
+        let (record, lent, out) = self.read(form, line)?;
+        key(record, &lent, out).map(|length| front(out, length))
+    }
+
+    /// The line's copy with the labels of the characters from `start` up to `end` withheld.
+    pub fn withheld(&mut self, form: Form, line: &[u8], start: usize, end: usize) -> Result<&[u8], Refusal> {
+        let (record, lent, out) = self.read(form, line)?;
+        withhold(record, &lent, start, end, out).map(|length| front(out, length))
+    }
+
+    /// The line written in a form: by one call, or by two where that one has too little room for it.
+    pub fn written(&mut self, form: Form, writer: Form, line: &[u8]) -> Result<&[u8], Refusal> {
+        match convert(form as u32, writer as u32, line, &mut self.out[..LONGEST_OUTPUT], 0) {
+            Ok(end) => Ok(front(&self.out, end)),
+            Err(Refusal { number: 11 | 12, .. }) => {
+                let (record, lent, out) = self.read(form, line)?;
+                write(writer as u32, record, &lent, out).map(|length| front(out, length))
+            }
+            Err(refusal) => Err(refusal),
+        }
+    }
+
+    /// The line converted to a form by the one call, with the most room that it takes.
     pub fn converted(&mut self, form: Form, writer: Form, line: &[u8]) -> Result<Vec<u8>, Refusal> {
         let out = &mut self.out[..LONGEST_OUTPUT];
-        convert(form as u32, writer as u32, line, out, 0).map(|end| out[..out.len().min(end as usize)].to_vec())
+        convert(form as u32, writer as u32, line, out, 0).map(|end| front(out, end).to_vec())
     }
 
     /// All that the port's other calls say of a line.
     pub fn outcome(&mut self, form: Form, line: &[u8]) -> Result<Answer, Refusal> {
-        let mut lent = self.buffers.lend(AMPLE);
-        let mut numbers = [0; 5];
-        read(form as u32, line, &mut lent, &mut numbers)?;
-        let record = numbers.map(|number| number as usize);
-        let mut line = |form| write(form as u32, record, &lent, &mut self.out).map(|length| self.out[..self.out.len().min(length as usize)].to_vec());
+        let (record, lent, out) = self.read(form, line)?;
+        let mut line = |form| write(form as u32, record, &lent, out).map(|length| front(out, length).to_vec());
         let (tokenized, partial) = (line(Form::Tokenized), line(Form::Partial));
         Ok(Answer { record, buffers: held(record, &lent), tokens: tokens(record, &lent), tokenized, partial })
     }
+
+    /// The line read: its record, the buffers that hold it, and the room to write into.
+    fn read(&mut self, form: Form, line: &[u8]) -> Result<(Record, Lent<'_>, &mut Vec<u8>), Refusal> {
+        let mut lent = self.buffers.lend(AMPLE);
+        let mut numbers = [0; 5];
+        read(form as u32, line, &mut lent, &mut numbers)?;
+        Ok((numbers.map(|number| number as usize), lent, &mut self.out))
+    }
+}
+
+/// So many elements, as far as there are.
+fn front<T>(of: &[T], length: u64) -> &[T] {
+    &of[..of.len().min(length as usize)]
 }
 
 /// The tokens from the first character on.
@@ -365,18 +403,18 @@ fn tokens(record: Record, lent: &Lent) -> Result<Vec<[u64; 2]>, Refusal> {
 
 /// What a record says of lent buffers, as far as they go.
 fn held([n, b, _, cells, g]: Record, lent: &Lent) -> Buffers {
-    fn front<T: Copy>(of: &[T], length: usize) -> Vec<T> {
-        of[..length.min(of.len())].to_vec()
+    fn copied<T: Copy>(of: &[T], length: usize) -> Vec<T> {
+        front(of, length as u64).to_vec()
     }
     Buffers {
-        text: front(lent.text, b),
-        types: front(lent.types, n),
-        boundaries: front(lent.boundaries, n.saturating_sub(1)),
-        char_pos: front(lent.char_pos, n.saturating_add(1)),
-        byte_pos: front(lent.byte_pos, b.saturating_add(1)),
-        cell_starts: front(lent.cell_starts, cells),
-        cell_lengths: front(lent.cell_lengths, cells),
-        tag_bytes: front(lent.tag_bytes, g),
+        text: copied(lent.text, b),
+        types: copied(lent.types, n),
+        boundaries: copied(lent.boundaries, n.saturating_sub(1)),
+        char_pos: copied(lent.char_pos, n.saturating_add(1)),
+        byte_pos: copied(lent.byte_pos, b.saturating_add(1)),
+        cell_starts: copied(lent.cell_starts, cells),
+        cell_lengths: copied(lent.cell_lengths, cells),
+        tag_bytes: copied(lent.tag_bytes, g),
     }
 }
 

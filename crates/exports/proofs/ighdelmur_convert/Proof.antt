@@ -1,8 +1,8 @@
--- `convert::ighdelmur_convert` meets its contract: places are small, so that the number fits.
-use Rattle.convert.proofs.Codes.{small-place, code-wrote, code-refused}
+-- `exports::ighdelmur_convert` meets its contract: places are small, so that the number fits.
+use Rattle.exports.proofs.Codes.{small-place, code-wrote, code-refused}
 use borrow.Author.Needs.{needs}
-use Rattle.convert.proofs.ighdelmur_convert.Statement.{statement}
-use Rattle.convert.proofs.ighdelmur_convert.Tie as tie
+use Rattle.exports.proofs.ighdelmur_convert.Statement.{statement}
+use Rattle.exports.proofs.ighdelmur_convert.Tie as tie
 
 convert-requires : tie.Need-convert-requires
 convert-requires c κs = search needs

@@ -19,11 +19,12 @@ use Rattle.sentence.specs.Writing.{written}
 use Rattle.sentence.specs.Refusals.{refusalCode, verdict, hostOrder}
 use Rattle.sentence.proofs.Shape.{read-formed}
 use Rattle.convert_buffers.specs.Between.{Outcome, writes, refuses, overfull, between, Converts}
-use Rattle.convert.specs.Convert.{unknownForms, outOfRange, conversion, codeOf}
+use Rattle.convert.specs.Convert.{unknownForms, outOfRange, conversion}
+use Rattle.exports.specs.Exports.{codeOf}
 use Rattle.convert_buffers.specs.declared.Converted.{Converted}
 use Rattle.convert_buffers.specs.declared.Converted.the-variants.{Wrote, Refused}
 use Rattle.convert_buffers.proofs.Outcomes.{was-refused}
-use Rattle.convert.proofs.Lengths.{written-small}
+use Rattle.exports.proofs.Lengths.{written-small}
 
 -- ---- places are small
 -- a reader's

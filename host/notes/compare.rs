@@ -1,29 +1,43 @@
 //! Each line of files, read and written by both sides; docs/COMPARING.md is the guide.
 
-use crate::answers::{or_refused, seen, visible, Answer, Form, Refusal};
-use crate::original;
-use crate::port::Port;
-use crate::{rules, Failure, Outcome};
+use crate::desk::Desk;
+use crate::files::{counted, look_at, Source};
+use crate::table::row;
+use crate::words::Words;
+use crate::{Failure, Outcome};
+use sides::answers::{or_refused, seen, visible, Answer, Form, Refusal};
+use sides::original;
+use sides::port::Port;
+use sides::rules;
 use std::collections::BTreeMap;
-use std::fs::File;
-use std::io::{self, stdout, BufRead, BufReader, BufWriter, Write};
-use std::time::{Duration, Instant};
 
 /// How much of a value a person is shown.
 const CLIP: usize = 160;
 
-/// Compares both sides on each line of files, as a list to read or as TSV; whether all that differs is explained.
-pub fn command(words: &[&str]) -> Outcome {
-    let (tsv, words) = match words {
-        ["--tsv", words @ ..] => (true, words),
-        words => (false, words),
-    };
-    let (form, files) = match words {
-        [word, ..] if word.starts_with('-') => return Err(Failure::Usage(format!("compare does not know '{word}'"))),
-        [] | [_] => return Err(Failure::Usage("compare takes a form and one or more files".into())),
-        [form, files @ ..] => (Form::named(form).ok_or(Failure::Usage(format!("'{form}' is no form: T, P or R")))?, files),
-    };
-    Report { tsv, out: BufWriter::new(stdout()), port: Port::new(), said: Instant::now() }.files(form, files)
+/// Compares both sides on each line of files, as a list to read or as a table; whether something that differs is not explained.
+pub fn verb(desk: &mut Desk, words: Words) -> Outcome {
+    let tsv = words.has("--tsv");
+    let sources = words.sources()?;
+    look_at(&sources)?;
+    if tsv {
+        row(desk, &[b"file", b"line", b"item", b"part", b"original", b"port", b"text"])?;
+    }
+    let (mut port, mut total, mut told) = (Port::default(), Summary::default(), vec![]);
+    for source in &sources {
+        let mut summary = Summary::default();
+        let mut lines = source.lines(u64::MAX)?;
+        while let Some(line) = lines.next(desk)? {
+            summary.lines += 1;
+            compared(desk, &mut port, tsv, source, line.bytes, &mut summary)?;
+        }
+        told.push(summary.told(&source.shown()));
+        total.add(&summary);
+    }
+    if told.len() > 1 {
+        told.push(total.told("in all"));
+    }
+    told.iter().try_for_each(|line| if tsv { desk.tell(line) } else { desk.line(line.as_bytes()) })?;
+    Ok(total.unexplained() > 0)
 }
 
 /// Something that the two sides say differently of a line.
@@ -62,8 +76,8 @@ impl Summary {
         let items: Vec<String> = items.iter().map(|(item, count)| format!("{item}: {count}")).collect();
         let explained = if items.is_empty() { String::new() } else { format!("{}, ", items.join(", ")) };
         format!(
-            "{of}: {} lines, {} alike ({} accepted, {} refused), {differing} different ({explained}{UNEXPLAINED}: {})",
-            self.lines,
+            "{of}: {}, {} alike ({} accepted, {} refused), {differing} different ({explained}{UNEXPLAINED}: {})",
+            counted(self.lines, "line"),
             self.lines - differing,
             self.accepted,
             self.refused,
@@ -75,86 +89,33 @@ impl Summary {
 /// What stands in the place of an item where none explains a difference.
 const UNEXPLAINED: &str = "unexplained";
 
-struct Report<W: Write> {
-    tsv: bool,
-    out: W,
-    port: Port,
-    said: Instant,
-}
-
-impl<W: Write> Report<W> {
-    /// Compares the files one after another; those that cannot be read are named at the end.
-    fn files(&mut self, form: Form, files: &[&str]) -> Outcome {
-        let mut total = Summary::default();
-        if self.tsv {
-            writeln!(self.out, "file\tline\titem\tpart\toriginal\tport\ttext")?;
-        }
-        let (mut told, mut unread) = (vec![], vec![]);
-        for file in files {
-            let mut summary = Summary::default();
-            match File::open(file) {
-                Ok(opened) => self.file(form, file, BufReader::new(opened), &mut summary)?,
-                Err(error) => Some(error),
-            }
-            .map_or_else(|| told.push(summary.told(file)), |error| unread.push(format!("cannot read {}: {error}", seen(file))));
-            total.add(&summary);
-        }
-        if told.len() > 1 {
-            told.push(total.told("in all"));
-        }
-        self.out.flush()?;
-        told.iter().try_for_each(|line| if self.tsv { writeln!(io::stderr(), "{line}") } else { writeln!(self.out, "{line}") })?;
-        self.out.flush()?;
-        if !unread.is_empty() {
-            return Err(Failure::Trouble(unread.join("\nboth: ")));
-        }
-        Ok(total.unexplained() == 0)
+/// Compares both sides on a line and prints how they differ.
+fn compared(desk: &mut Desk, port: &mut Port, tsv: bool, source: &Source, line: &[u8], summary: &mut Summary) -> Result<(), Failure> {
+    let (differences, accepted) = differences(port, source.form, line);
+    if differences.is_empty() {
+        *if accepted { &mut summary.accepted } else { &mut summary.refused } += 1;
+        return Ok(());
     }
-
-    /// Compares both sides on each line of a file, up to what cannot be read, if there is such.
-    fn file(&mut self, form: Form, file: &str, mut lines: impl BufRead, summary: &mut Summary) -> io::Result<Option<io::Error>> {
-        let mut line = vec![];
-        loop {
-            line.clear();
-            match lines.read_until(b'\n', &mut line) {
-                Ok(0) => return Ok(None),
-                Ok(_) => {}
-                Err(error) => return Ok(Some(error)),
-            }
-            if line.last() == Some(&b'\n') {
-                line.pop();
-            }
-            summary.lines += 1;
-            self.line(form, file, &line, summary)?;
-            if self.said.elapsed() > Duration::from_secs(5) {
-                self.said = Instant::now();
-                eprintln!("compare: {file}: {} lines", summary.lines);
-            }
-        }
+    let item = differences.iter().find(|d| d.item.is_none()).map_or(differences[0].item, |_| None).unwrap_or(UNEXPLAINED);
+    *summary.items.entry(item).or_default() += 1;
+    let (at, shown) = (source.at(summary.lines), visible(line));
+    if !tsv {
+        desk.line(format!("{at}: {item}\n  line  {}", clipped(&shown, 0)).as_bytes())?;
     }
-
-    /// Compares both sides on a line and prints how they differ.
-    fn line(&mut self, form: Form, file: &str, line: &[u8], summary: &mut Summary) -> io::Result<()> {
-        let (differences, accepted) = differences(&mut self.port, form, line);
-        if differences.is_empty() {
-            *if accepted { &mut summary.accepted } else { &mut summary.refused } += 1;
-            return Ok(());
-        }
-        let item = differences.iter().find(|d| d.item.is_none()).map_or(differences[0].item, |_| None).unwrap_or(UNEXPLAINED);
-        *summary.items.entry(item).or_default() += 1;
-        if self.tsv {
-            for Difference { part, original, port, item } in differences {
-                let item = item.unwrap_or(UNEXPLAINED);
-                writeln!(self.out, "{}\t{}\t{item}\t{part}\t{original}\t{port}\t{}", seen(file), summary.lines, visible(line))?;
-            }
-            return Ok(());
-        }
-        writeln!(self.out, "{file}:{}: {item}\n  line  {}", summary.lines, clipped(&visible(line), 0))?;
-        for Difference { part, original, port, .. } in differences {
+    for Difference { part, original, port, item } in differences {
+        if tsv {
+            let (number, item) = (summary.lines.to_string(), item.unwrap_or(UNEXPLAINED));
+            let cells = [number.as_bytes(), item.as_bytes(), part.as_bytes(), original.as_bytes(), port.as_bytes(), shown.as_bytes()];
+            row(desk, &[&[source.name.as_encoded_bytes()], &cells[..]].concat())?;
+        } else {
             let from = original.bytes().zip(port.bytes()).take_while(|(a, b)| a == b).count();
-            writeln!(self.out, "  {part}\n    the Rust  {}\n    the port  {}", clipped(&original, from), clipped(&port, from))?;
+            desk.line(format!("  {part}\n    the Rust  {}\n    the port  {}", clipped(&original, from), clipped(&port, from)).as_bytes())?;
         }
-        writeln!(self.out)
+    }
+    if tsv {
+        Ok(())
+    } else {
+        desk.line(b"")
     }
 }
 

@@ -15,6 +15,10 @@ impl Form {
         ['R', 'T', 'P'][self as usize]
     }
 
+    pub fn name(self) -> &'static str {
+        ["raw", "tokenized", "partial"][self as usize]
+    }
+
     /// The form of a letter or of a name.
     pub fn named(name: &str) -> Option<Self> {
         match name {
@@ -208,12 +212,17 @@ fn numbers<T: Copy + Into<u64>>(values: &[T]) -> String {
 
 /// Bytes as text in quotes; what cannot be seen stands in angle brackets.
 pub fn visible(bytes: &[u8]) -> String {
-    let mut shown = String::from("'");
+    format!("'{}'", unquoted(bytes))
+}
+
+/// The same without quotes.
+pub fn unquoted(bytes: &[u8]) -> String {
+    let mut shown = String::new();
     for chunk in bytes.utf8_chunks() {
         shown += &seen(chunk.valid());
         chunk.invalid().iter().for_each(|byte| shown += &format!("<byte {byte:02X}>"));
     }
-    shown + "'"
+    shown
 }
 
 /// Text in which every character can be seen.
