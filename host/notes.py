@@ -2,10 +2,11 @@
 """Runs notes.sh and looks at what it prints, what it says and how it ends.
 
 Usage: notes.py
-Every example of its help pages is run. Its answers are compared with a second reading, crates/test_hiding/reading.py, for every short line over a small
-alphabet, drawn lines, and lines around the limits, in all three forms; so are the groups of duplicates in drawn files. The words on refusals are held to
-README.md. It is run on input that arrives in pieces, on files and devices that fail, on files that change while they are read, at a terminal, and on
-words that it does not know; and target/host/x86/wrong/compare, which host/link.sh builds, with a port that is made wrong.
+Every example of its help pages and of docs/DUPLICATES.md is run. Its answers are compared with a second reading, crates/test_hiding/reading.py, for
+every short line over a small alphabet, drawn lines, and lines around the limits, in all three forms; so are the groups of duplicates in drawn files.
+The words on refusals are held to README.md. It is run on input that arrives in pieces, on files and devices that fail, on files that change while they
+are read, at a terminal, and on words that it does not know; and target/host/x86/wrong/compare, which host/link.sh builds, with a port that is made
+wrong.
 Prints what ended otherwise, 20 outcomes at most, and how many runs and answers there were. Status 0: all is as it should be; 1: something is not; 2: it
 could not be run.
 """
@@ -332,11 +333,18 @@ def pages():
             expect(f"{name} in the page of all", f"\n  {name} " in run(["--help"])[0].decode(), True)
         else:
             expect("no word", run([]), (b"", page.encode(), 2))
-        commands = list(examples(page))
-        expect(f"the page of {name} has an example", bool(commands), True)
-        for command, printed in commands:
-            done = subprocess.run(["bash", "-c", command], cwd=TOP, stdin=subprocess.DEVNULL, stdout=subprocess.PIPE, stderr=subprocess.STDOUT, timeout=LIMIT)
-            expect(f"the page of {name}: {command}", done.stdout.decode(errors="replace"), printed)
+        run_examples(f"the page of {name}", page)
+    with open(os.path.join(TOP, "docs", "DUPLICATES.md"), encoding="utf-8") as opened:
+        run_examples("docs/DUPLICATES.md", opened.read())
+
+
+def run_examples(name, page):
+    """The commands of a page, run in the project's folder."""
+    commands = list(examples(page))
+    expect(f"{name} has an example", bool(commands), True)
+    for command, printed in commands:
+        done = subprocess.run(["bash", "-c", command], cwd=TOP, stdin=subprocess.DEVNULL, stdout=subprocess.PIPE, stderr=subprocess.STDOUT, timeout=LIMIT)
+        expect(f"{name}: {command}", done.stdout.decode(errors="replace"), printed)
 
 
 def words():
