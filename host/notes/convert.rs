@@ -2,9 +2,8 @@
 
 use crate::desk::Desk;
 use crate::files::{counted, look_at, KEPT};
-use crate::refusals::Refusals;
-use crate::table::row;
 use crate::words::Words;
+use crate::writing::Writing;
 use crate::{Failure, Outcome};
 use sides::answers::Form;
 use sides::port::Port;
@@ -14,38 +13,23 @@ pub fn verb(desk: &mut Desk, mut words: Words) -> Outcome {
     let (from, to) = (words.form("form to read")?, words.written_form()?);
     let source = words.source(from)?;
     look_at([&source])?;
-    if tsv {
-        row(desk, &[b"file", b"line", b"number", b"place", b"kept", b"note"])?;
-    }
-    let (mut port, mut refusals, mut losses) = (Port::default(), Refusals::default(), Losses::default());
+    let (mut port, mut losses) = (Port::default(), Losses::default());
+    let mut writing = Writing::of(desk, &source, tsv, &[b"kept"])?;
     let mut lines = source.lines(KEPT)?;
     while let Some(line) = lines.next(desk)? {
-        refusals.notes += 1;
-        let (name, number) = (source.name.as_encoded_bytes(), line.number.to_string());
         match port.written(from, to, line.bytes).map(<[u8]>::to_vec) {
+            Err(refusal) => writing.refused(desk, &line, refusal)?,
             Ok(written) => {
                 let kept = is_kept(&mut port, from, to, line.bytes, &written);
                 if !kept {
                     losses.count(&written, source.at(line.number));
                 }
-                match tsv {
-                    true => row(desk, &[name, number.as_bytes(), b"", b"", if kept { b"yes" } else { b"no" }, &written])?,
-                    false => desk.line(&written)?,
-                }
-            }
-            Err(refusal) if tsv => {
-                refusals.count(refusal);
-                let (refused, place) = (refusal.number.to_string(), refusal.place.to_string());
-                row(desk, &[name, number.as_bytes(), refused.as_bytes(), place.as_bytes(), b"", b""])?;
-            }
-            Err(refusal) => {
-                desk.line(b"")?;
-                refusals.say(desk, &source, &line, refusal)?;
+                writing.wrote(desk, &line, &[if kept { b"yes" } else { b"no" }], &written)?;
             }
         }
     }
     losses.tell(desk)?;
-    refusals.finish(desk, if tsv { "their rows have the number and the place" } else { "each of them is an empty line of the output" })
+    writing.finish(desk)
 }
 
 /// Whether the written line reads back as the note that it was written from. The two partial lines say so; by proof only the tokenized form of a note in

@@ -44,19 +44,21 @@ pub fn verb(desk: &mut Desk, words: Words) -> Outcome {
             desk.progress(|| format!("{} found", counted(groups, "group")));
         }
     }
-    let refused = refusals.total();
-    if refused > 0 {
-        let rest = if refused > SHOWN { format!("; the first {SHOWN} are above, 'bash notes.sh check' lists them all") } else { String::new() };
-        desk.tell(&format!("{}: they are not compared{rest}", refusals.told()))?;
+    let rest = if refusals.total() > SHOWN { format!("; the first {SHOWN} are above, 'bash notes.sh check' lists them all") } else { String::new() };
+    let refused = refusals.finish(desk, &format!("they are not compared{rest}"))?;
+    desk.tell(&summary(groups, members, between, refusals.notes - refusals.total()))?;
+    Ok(groups > 0 || refused)
+}
+
+/// How many notes were found, on how many lines, and among how many.
+fn summary(groups: u64, members: u64, between: bool, notes: u64) -> String {
+    let (place, lines, compared) =
+        (if between { "in more than one file" } else { "more than once" }, counted(members, "line"), counted(notes, "note"));
+    match groups {
+        0 => format!("no note stands {place}: {compared} compared"),
+        1 => format!("1 note stands {place}, on {lines}: {compared} compared"),
+        _ => format!("{} notes stand {place}, on {lines}: {compared} compared", grouped(groups)),
     }
-    let place = if between { "in more than one file" } else { "more than once" };
-    let compared = format!("{} compared", counted(refusals.notes - refused, "note"));
-    desk.tell(&match groups {
-        0 => format!("no note stands {place}: {compared}"),
-        1 => format!("1 note stands {place}, on {}: {compared}", counted(members, "line")),
-        _ => format!("{} notes stand {place}, on {}: {compared}", grouped(groups), counted(members, "line")),
-    })?;
-    Ok(groups + refused > 0)
 }
 
 /// Refuses files that are one file: each of its notes would be its own duplicate.
@@ -72,7 +74,7 @@ fn apart(sources: &[Source], found: &[Metadata]) -> Result<(), Failure> {
     Ok(())
 }
 
-/// A note: the hash of its key, where its line begins in its file, how many bytes that has, and its line, counted over all files.
+/// A note: the hash of its key, where its line begins in its file or in what is held of it, how many bytes that has, its file, and its line there.
 struct Note {
     hash: u64,
     offset: u64,

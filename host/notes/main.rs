@@ -13,6 +13,7 @@ mod table;
 mod width;
 mod withhold;
 mod words;
+mod writing;
 
 use desk::Desk;
 use std::ffi::OsString;

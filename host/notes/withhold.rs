@@ -2,9 +2,8 @@
 
 use crate::desk::Desk;
 use crate::files::{look_at, Lines, Source, KEPT};
-use crate::refusals::Refusals;
-use crate::table::row;
 use crate::words::{number, Words};
+use crate::writing::Writing;
 use crate::{Failure, Outcome};
 use sides::answers::visible;
 use sides::port::Port;
@@ -22,32 +21,18 @@ pub fn verb(desk: &mut Desk, mut words: Words) -> Outcome {
         return Err(Failure::Words("the notes and the ranges cannot both be standard input: name a file for one of them".into()));
     }
     look_at([&source].into_iter().chain(&ranges))?;
-    let mut ranges = ranges.as_ref().map(|ranges| Ranges::of(ranges)).transpose()?;
-    if tsv {
-        row(desk, &[b"file", b"line", b"number", b"place", b"note"])?;
-    }
-    let (mut port, mut refusals) = (Port::default(), Refusals::default());
+    let mut ranges = ranges.as_ref().map(Ranges::of).transpose()?;
+    let (mut port, mut writing) = (Port::default(), Writing::of(desk, &source, tsv, &[])?);
     let mut lines = source.lines(KEPT)?;
     while let Some(line) = lines.next(desk)? {
-        refusals.notes += 1;
         let (start, end) = ranges.as_mut().map_or(Ok(range), |ranges| ranges.next(desk, &source, line.number))?;
-        let (name, number) = (source.name.as_encoded_bytes(), line.number.to_string());
         match port.withheld(form, line.bytes, start, end) {
-            Ok(copy) if tsv => row(desk, &[name, number.as_bytes(), b"", b"", copy])?,
-            Ok(copy) => desk.line(copy)?,
-            Err(refusal) if tsv => {
-                refusals.count(refusal);
-                let (refused, place) = (refusal.number.to_string(), refusal.place.to_string());
-                row(desk, &[name, number.as_bytes(), refused.as_bytes(), place.as_bytes(), b""])?;
-            }
-            Err(refusal) => {
-                desk.line(b"")?;
-                refusals.say(desk, &source, &line, refusal)?;
-            }
+            Ok(copy) => writing.wrote(desk, &line, &[], copy)?,
+            Err(refusal) => writing.refused(desk, &line, refusal)?,
         }
     }
-    ranges.map_or(Ok(()), |ranges| ranges.end(desk, &source, refusals.notes))?;
-    refusals.finish(desk, if tsv { "their rows have the number and the place" } else { "each of them is an empty line of the output" })
+    ranges.map_or(Ok(()), |ranges| ranges.end(desk, &source, writing.notes()))?;
+    writing.finish(desk)
 }
 
 /// A file with a range for each note: a start and an end, with a blank or a tab between them.
