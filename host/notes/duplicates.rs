@@ -20,7 +20,7 @@ use std::os::unix::fs::{FileExt, MetadataExt};
 const SHOWN: u64 = 10;
 
 /// How many files are open at once.
-const OPEN: usize = 100;
+const OPEN: usize = 16;
 
 pub fn verb(desk: &mut Desk, words: Words) -> Outcome {
     let (between, tsv) = (words.has("--between"), words.has("--tsv"));
