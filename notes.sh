@@ -7,7 +7,7 @@ set -u
 [ -e /dev/fd/1 ] || { echo 'notes.sh: standard output is closed' >&2 && exit 2; }
 closed=
 [ -e /dev/fd/0 ] || { closed=yes && exec </dev/null; }
-. "$(dirname "${BASH_SOURCE[0]}")/host/tools.sh"
+. "$(dirname "$(readlink -f "${BASH_SOURCE[0]}")")/host/tools.sh" || exit 2
 top=${here%/*}
 called=notes.sh
 pages=$here/notes/help
@@ -49,7 +49,7 @@ no_verb() {
         page=${page##*/}
         ! is_verb "${page%.txt}" || verbs+=("${page%.txt}")
     done
-    give_up "there is no '$1'; it does ${verbs[*]}" "'bash notes.sh --help' says how it is used"
+    give_up "there is no ${1@Q}; it does ${verbs[*]}" "'bash notes.sh --help' says how it is used"
 }
 
 verb=${1-}

@@ -15,7 +15,7 @@ echo '// no code' >"$work/sources/sentence.rs"
 printf '        for (b, s) in sentence\n        sentence.set_predictor(self);\n' >"$work/sources/predictor.rs"
 
 # The real programs that the scripts may call; every other is a stand-in, or missing.
-for name in awk bash basename cat cp cut diff dirname env find flock grep head mkdir mktemp mv nproc rm sed sha256sum sh sort tail tee timeout touch wc xargs; do
+for name in awk bash basename cat cp cut diff dirname env find flock grep head mkdir mktemp mv nproc readlink rm sed sha256sum sh sort tail tee timeout touch wc xargs; do
     ln -s "$(command -v "$name")" "$work/tools/$name" || exit 2
 done
 

@@ -131,6 +131,7 @@ UNKNOWN_WORDS = [
     (["withhold", "raw", "-1", "2"], "there is no option '-1' here; it knows --ranges FILE and --tsv"),
     (["withhold", "raw", "--ranges"], "--ranges is the last word: behind it stands FILE"),
     (["withhold", "--ranges", "a", "--ranges", "b", "raw"], "--ranges is given twice"),
+    (["withhold", "--ranges", "r", "raw", "0", "1"], "--ranges takes the place of START and END: behind the form stands one file at most"),
     (["withhold", "--ranges", "-", "raw"], "the notes and the ranges cannot both be standard input: name a file for one of them"),
     (["withhold", "--ranges", "-", "raw", "-"], "the notes and the ranges cannot both be standard input: name a file for one of them"),
     (["duplicates", "--between", "T", "a"], "--between looks for notes that stand in more than one file: name two or more"),
@@ -356,9 +357,8 @@ def words():
         wanted = b"", said(f"there is no '{verb}'; it does {' '.join(HEADINGS)}", "'bash notes.sh --help' says how it is used"), 2
         expect(f"the verb '{verb}'", run([verb, "raw", "-"]), wanted)
         expect(f"the verb '{verb}', and --help", run([verb, "--help"]), wanted)
-    out, err, status = run(["withhold", "--ranges", "r", "raw", "0", "1"])
-    expect("numbers beside --ranges: the line names it", (out, b"--ranges" in err.split(b"\n")[0], status), (b"", True, 2))
     expect("behind -- there is no help", run(["keys", "raw", "--", "--help"]), (b"", said(f"--help {GONE}"), 2))
+    expect("a name of nothing", run(["check", "raw", ""]), (b"", said(f"'' {GONE}"), 2))
     expect("the largest number", run(["withhold", "raw", "0", str(2**64 - 1)], b"a\n")[2], 1)
     for form, letter in zip(FORMS, "RTP"):
         expect(f"{letter} for {form}", run(["keys", letter, "-"], b"a b\n"), run(["keys", form, "-"], b"a b\n"))
@@ -844,12 +844,6 @@ def opened_pipe(name):
 # Files and streams
 
 
-def answers_of(lines, first=1):
-    """What `keys` prints and says of such lines, from a number on."""
-    out = b"".join(b"%s\t-\t%d\n" % (told, at) for at, (_, told) in enumerate(lines, first) if isinstance(told, bytes))
-    return out, [(at, *told) for at, (_, told) in enumerate(lines, first) if isinstance(told, tuple)]
-
-
 def as_told(outcome):
     """An outcome of `keys`, with the refusals in the place of what is said, and its last line."""
     out, err, status = outcome
@@ -857,9 +851,11 @@ def as_told(outcome):
 
 
 def wanted_of(lines):
-    """The same as it should be."""
-    out, refused = answers_of(lines)
-    return out, refused, [said(f"{len(refused):,} of {counted(len(lines), 'note')} refused: they have no key").strip()] if refused else [], 1 if refused else 0
+    """The same as it should be, for such lines as LINES has."""
+    wanted = [told for _, told in lines]
+    out = b"".join(b"%s\t-\t%d\n" % (wanted[at - 1], at) for at in accepted(wanted))
+    last = [said(f"{of_all(wanted)}: they have no key").strip()] if refused(wanted) else []
+    return out, refused(wanted), last, len(last)
 
 
 def arrivals():
@@ -876,20 +872,19 @@ def arrivals():
     out, _, _ = run(["check", "--tsv", "raw", "-"], joined(b"a" * n for n in LENGTHS))
     expect("long lines", [row[1:3] for row in table("check", out)], [[b"%d" % at, b"1"] for at, n in enumerate(LENGTHS, 1) if n > 4096])
     expect("many lines", as_told(whole(keys, ASKED * MANY)), wanted_of(LINES * MANY))
-    process = start(keys, stdin=subprocess.PIPE)
+    process = start(keys, stdin=subprocess.PIPE, bufsize=0)
     for i in range(0, len(ASKED), 7):
-        process.stdin.write(ASKED[i:i + 7])
-        process.stdin.flush()
+        give(process, ASKED[i:i + 7])
         time.sleep(0.002)
-    expect("input in pieces", as_told(outcome(process)), wanted_of(LINES))
+    expect("input in pieces", as_told(outcome(without_more(process))), wanted_of(LINES))
     reads, writes = os.pipe()
     os.set_blocking(reads, False)
     process = start(keys, stdin=reads)
     os.close(reads)
+    process.stdin = os.fdopen(writes, "wb", buffering=0)
     time.sleep(0.4)
-    os.write(writes, ASKED)
-    os.close(writes)
-    expect("an input that does not wait", as_told(outcome(process)), wanted_of(LINES))
+    give(process, ASKED)
+    expect("an input that does not wait", as_told(outcome(without_more(process))), wanted_of(LINES))
 
 
 def no_input():
@@ -915,15 +910,23 @@ def at_once():
     for verb, (first, wanted, second, more) in steps.items():
         process = start(CALLS[verb], stdin=subprocess.PIPE, bufsize=0)
         for data, lines in ((first, wanted), (second, more)):
-            process.stdin.write(data)
+            give(process, data)
             got = [next_line(process.stdout) for _ in lines[:1]]
             got += [next_line(process.stdout) for _ in lines[1:] if got[0]]
             expect(f"{verb} answers at once", got, [line.encode() + b"\n" for line in lines])
         expect(f"{verb} ends behind its input", outcome(without_more(process))[2], 1 if verb == "check" else 0)
     process = start(CALLS["duplicates"], stdin=subprocess.PIPE, bufsize=0)
-    process.stdin.write(b"ab\n")
+    give(process, b"ab\n")
     expect("duplicates refuses at once", next_line(process.stderr), refusal("-:1", 9, 1).encode() + b"\n")
     expect("duplicates ends behind its input", outcome(without_more(process))[2], 1)
+
+
+def give(process, data):
+    """Gives a run some of its input; one that has ended takes none."""
+    try:
+        process.stdin.write(data)
+    except BrokenPipeError:
+        pass
 
 
 def next_line(stream):
@@ -1010,11 +1013,8 @@ def outputs_that_fail():
             file("notes", b"a|b\na|b\nab\n\xff\n")
             named = [word if word != "-" else "notes" for word in call] + ([] if "-" in call else ["notes"])
             for words in (named, [verb, "--tsv", *named[1:]]):
-                wanted = None, FULL, 2
-                got = outcome(start(words, stdout=full))
-                if verb == "duplicates":
-                    got = got[0], got[1][-len(FULL):], got[2]
-                expect(f"{words}: a full device", got, wanted)
+                _, err, status = outcome(start(words, stdout=full))
+                expect(f"{words}: a full device", (err[-len(FULL):], verb == "duplicates" or err == FULL, status), (FULL, True, 2))
         expect("check: a full device, and nothing to print", outcome(start(["check", "raw", "/dev/null"], stdout=full)), (None, b"", 0))
         out, err, status = outcome(start(["--help"], stdout=full))
         expect("--help: a full device", (err.endswith(said("standard output cannot be written")), status), (True, 2))
@@ -1040,9 +1040,12 @@ def outputs_that_fail():
 
 
 def from_outside():
-    """A program that is ended before its end."""
+    """A script that is called by a link does its work, or ends as in trouble; and a program that is ended before its end."""
+    os.symlink(SCRIPT[1], os.path.join(folder, "link"))
+    got, direct = run(CALLS["keys"], b"a\n", ["bash", os.path.join(folder, "link")]), run(CALLS["keys"], b"a\n")
+    expect("notes.sh by a link", direct if got[2] == 2 else got, direct)
     process = start(CALLS["keys"], stdin=subprocess.PIPE, bufsize=0)
-    process.stdin.write(b"a\n")
+    give(process, b"a\n")
     next_line(process.stdout)
     with open(f"/proc/{process.pid}/task/{process.pid}/children", encoding="ascii") as children:
         os.kill(int(children.read().split()[0]), signal.SIGKILL)
@@ -1115,6 +1118,8 @@ def ranges():
     expect("a range that is not UTF-8", with_ranges(b"\xff 1\n"), (b"", said(f"ranges:1: '<byte FF> 1' {rest}"), 2))
     out, err, status = with_ranges(b"0 1\nx\n", "--tsv")
     expect("a range that is none, and a table", (table("withhold", out), err, status), ([[b"-", b"1", b"", b"", b"a b"]], said(f"ranges:2: 'x' {rest}"), 2))
+    out, err, status = with_ranges("\ufeff0 1\n1 2\n".encode())
+    expect("ranges with a byte order mark, which is of no note", (out, b" note" in err, status), (b"", False, 2))
     told = f"{refusal('-:1', 14, 2)}\n    a/x|b\n{refusal('-:2', 14, 0)}\n    a|b/y\n".encode()
     expect("ranges that are not in the note", with_ranges(b"2 1\n0 3\n"), (b"\n\n", told + said(f"2 of 2 notes refused: {EMPTY_LINES}"), 1))
     file("notes", b"a/x|b\na|b/y\n")
@@ -1182,7 +1187,7 @@ def progress():
     feeds = [slow[0], doubled[0], piped]
     for data, pause in ((b"a\n", 3 + 5 * took), (b"a\n", 0.2), (b"ab\n", 0)):
         for process in feeds:
-            process.stdin.write(data)
+            give(process, data)
         time.sleep(pause)
     for process in feeds:
         without_more(process)

@@ -86,10 +86,10 @@ impl Source {
 
     /// The same where it stands in a sentence.
     fn told(&self) -> String {
-        if self.is_standard_input() {
-            "standard input".into()
-        } else {
-            self.shown()
+        match self.name.is_empty() {
+            true => "''".into(),
+            false if self.is_standard_input() => "standard input".into(),
+            false => self.shown(),
         }
     }
 }
@@ -169,7 +169,7 @@ impl Lines<'_> {
             return Ok(None);
         }
         self.number += 1;
-        if self.number == 1 && self.line.starts_with("\u{feff}".as_bytes()) {
+        if self.number == 1 && self.source.holds == "notes" && self.line.starts_with("\u{feff}".as_bytes()) {
             let name = self.source.told();
             desk.tell(&format!("{name}: it begins with a byte order mark, which is a character of its first note here; to take it out: sed '1s/^\\xEF\\xBB\\xBF//' FILE"))?;
         }
