@@ -30,7 +30,7 @@ build() {
     ! is_built || return 0
     command -v rt >/dev/null || give_up_without "$(no_rt)"
     find_x86 || give_up_without "$(no_x86)"
-    libraries "$out/staticlib.log" exports
+    tells=yes libraries "$out/staticlib.log" exports
     mkdir -p "$out/new" || give_up "cannot write to $out"
     compile "$out/new" "${x86[@]}" --crate-type rlib --crate-name sides -L "$top/target/staticlib" "${cfgs[@]}" "$here/sides/lib.rs"
     compile "$out/new" "${x86[@]}" --crate-name notes --extern sides -L "$top/target/staticlib" "${cfgs[@]}" "$here/notes/main.rs"

@@ -36,6 +36,7 @@ case $1 in
 version) echo "$KIT" ;;
 staticlib)
     echo 'rt: a word on staticlib'
+    echo 'rt: one proved (1 s)'
     mkdir -p target/staticlib
     [ "$RT_EXIT" != 0 ] || echo '' >"target/staticlib/lib$2.a"
     exit "$RT_EXIT"
@@ -197,7 +198,7 @@ for words in 'both.sh check' link.sh; do
     without=rt ends "$words without rt" 2 "this is missing: rt, the kit's command" "$@"
     without=rustc installs=yes ends "$words without a compiler" 2 'this is missing: rustc 1.83' "$@"
     rm -rf "$here/target"
-    ends "$words where rt fails" 2 $'a word on staticlib\nhost/link.sh: \'rt staticlib exports\' failed' RT_EXIT=1 "$@"
+    ends "$words where rt fails" 2 $'a word on staticlib\nrt: one proved (1 s)\nhost/link.sh: \'rt staticlib exports\' failed' RT_EXIT=1 "$@"
     ends "$words where the compiler fails" 2 $'a word of the compiler\nhost/link.sh: the compiler failed' "$@"
 done
 rm -rf "$here/target"
@@ -213,7 +214,7 @@ for name in count example loader withhold; do
     set -- bash "$here/host/$name.sh"
     rm -rf "$here/target"
     without=rt ends "$name without rt" 2 "this is missing: rt, the kit's command" "$@"
-    ends "$name where rt fails" 2 $'a word on staticlib\nhost/'"$name.sh: 'rt staticlib exports' failed" RT_EXIT=1 "$@"
+    ends "$name where rt fails" 2 $'a word on staticlib\nrt: one proved (1 s)\nhost/'"$name.sh: 'rt staticlib exports' failed" RT_EXIT=1 "$@"
     ends "$name where the compiler fails" 2 'the compiler of C failed' "$@"
 done
 without=python3 ends 'withhold without python3' 2 'this is missing: python3' bash "$here/host/withhold.sh"
@@ -230,7 +231,7 @@ without=rt ends 'the desk without rt' 2 "notes.sh: this is missing: rt, the kit'
 without=rustc installs=yes ends 'the desk without a compiler' 2 'this is missing: rustc 1.83' "$@" check raw /dev/null
 installs=yes ends 'the desk on an Arm machine without the packages' 2 'this is missing: a compiler and an emulator for x86-64' MACHINE=aarch64 IGHDELMUR_USR="$work/none" "$@" check raw /dev/null
 ends 'the desk on another machine' 2 'this is riscv64' MACHINE=riscv64 "$@" check raw /dev/null
-ends 'the desk where rt fails' 2 $'a word on staticlib\nnotes.sh: \'rt staticlib exports\' failed' RT_EXIT=1 "$@" check raw /dev/null
+ends 'the desk where rt fails' 2 $'a word on staticlib\nrt: one proved (1 s)\nnotes.sh: \'rt staticlib exports\' failed' RT_EXIT=1 "$@" check raw /dev/null
 ends 'the desk where the compiler fails' 2 $'a word of the compiler\nnotes.sh: the compiler failed' "$@" check raw /dev/null
 ends 'the desk that is not built' 2 'notes.sh: it could not be built, for the reason above; nothing was done' "$@" check raw /dev/null
 ends 'compare without the sources' 2 'VAPORETTO_SRC' VAPORETTO_SRC="$work/none" "$@" compare raw /dev/null
@@ -248,7 +249,7 @@ without=rt ends 'native without rt' 2 "this is missing: rt, the kit's command" M
 ends 'native without the sources' 2 'VAPORETTO_SRC' MACHINE=aarch64 VAPORETTO_SRC="$work/none" "$@"
 without=rustc installs=yes ends 'native without a compiler' 2 'this is missing: rustc 1.83' MACHINE=aarch64 "$@"
 rm -rf "$here/target"
-ends 'native where rt fails' 2 $'a word on staticlib\nhost/native.sh: \'rt staticlib exports\' failed' MACHINE=aarch64 RT_EXIT=1 "$@"
+ends 'native where rt fails' 2 $'a word on staticlib\nrt: one proved (1 s)\nhost/native.sh: \'rt staticlib exports\' failed' MACHINE=aarch64 RT_EXIT=1 "$@"
 set -- bash "$here/host/count.sh"
 stand_in "$work/bin/cc" <<<'exit 0'
 ends 'count with a program that cannot be run' 2 'read, notes P: the program failed with status 127' "$@"
@@ -268,7 +269,8 @@ done
 [ "$name" = "$LEFT_OUT" ] || cp "$AWAY/program" "$folder/$name"
 RUSTC
 ends 'the desk where the compiler writes nothing' 2 "cannot write $here/target/host/notes/notes" LEFT_OUT=notes "$@"
-ends 'the desk at the first call' 0 "$built"$'\n''asked check raw /dev/null' PROGRAM_EXIT=0 "$@"
+rm -rf "$here/target"
+ends 'the desk at the first call' 0 "$built"$'\nrt: one proved (1 s)\nasked check raw /dev/null' PROGRAM_EXIT=0 "$@"
 without='rt rustc cc' ends 'the desk at the second call' 0 'asked check' PROGRAM_EXIT=0 "$@"
 [ "$text" = 'asked check raw /dev/null' ] || wrong 'the desk at the second call' 'it says more'
 ends 'the desk that finds something' 1 'asked check' PROGRAM_EXIT=1 "$@"

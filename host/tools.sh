@@ -169,8 +169,8 @@ building() {
     mkdir -p "$1" && exec 9>"${here%/*}/target/host/lock" && flock 9 || give_up "cannot write to $1"
 }
 
-# The port's static libraries, proved and written by rt where a crate or the kit has changed since; what rt says is shown where it fails:
-# libraries LOG NAME..
+# The port's static libraries, proved and written by rt where a crate or the kit has changed since; what rt says is shown where it fails, and where
+# `tells` is set each crate as it is proved: libraries LOG NAME..
 libraries() {
     local log=$1 name archive stamp crates
     shift
@@ -180,7 +180,8 @@ libraries() {
         stamp=${here%/*}/target/host/lib$name.stamp
         [ ! -f "$archive" ] || [ "$crates $(sha256sum <"$archive")" != "$(cat "$stamp" 2>/dev/null)" ] || continue
         rm -f "$stamp"
-        (cd "$here/.." && rt staticlib "$name") >"$log" 2>&1 </dev/null || { cat "$log" >&2 && give_up "'rt staticlib $name' failed: its words are above"; }
+        (set -o pipefail && cd "$here/.." && rt staticlib "$name" 2>&1 </dev/null | tee "$log" | sed -un "${tells:+/^rt: .* proved/p}" >&2) ||
+            { cat "$log" >&2 && give_up "'rt staticlib $name' failed: its words are above"; }
         [ -f "$archive" ] || give_up "'rt staticlib $name' wrote no $archive"
         echo "$crates $(sha256sum <"$archive")" >"$stamp"
     done
