@@ -1,14 +1,13 @@
 -- How long a written line can be. The bounds are wide; they only say that lengths and codes fit. Assumes nothing.
 use Prim.Native.Nat.{ℕ, zero, suc, _+_, _-_, _*_, _^_, _≤_, _<_}
 use native.Mathlib.Omega.{arith}
-use mathlib.Core.Path.{refl, sym, ap, _∙_}
+use mathlib.Core.Path.{sym, ap, _∙_}
 use mathlib.Core.List.{List, [], _∷_, map}
 use lib.ListN.{length, take, drop, getD}
 use Rattle.laws.specs.If.{if_then_else_}
-use Rattle.laws.specs.All.{All}
 use Rattle.utf8.specs.Utf8.{width, size}
 use Rattle.utf8.proofs.Codec.{width-small, size-append, length-encodes, size-long}
-use Rattle.sentence.specs.Sentence.{Tag, Cells, final, cell, Sentence, textOf, rowsOf, text, marks, rows, pad, cut, rowBytes, tagBytes, Row, CellsOf, Formed}
+use Rattle.sentence.specs.Sentence.{Tag, Cells, final, cell, Sentence, textOf, rowsOf, text, marks, rows, pad, rowBytes, tagBytes, CellsOf, Formed}
 use Rattle.sentence.specs.declared.Form.{Form}
 use Rattle.sentence.specs.declared.Form.the-variants.{Raw as raw, Tokenized as tokenized, Partial as partial}
 use Rattle.sentence.specs.Reading.{Kind, mark, slash, back, plain, kind}
@@ -16,7 +15,7 @@ use Rattle.sentence.specs.Writing.{Token, token, tokensFrom, surface, escapeAs,
 use Rattle.sentence.proofs.Shape.{cut-bytes}
 use Rattle.sentence.proofs.Trips.{Shows, pad-shows, shown-shows}
 use Rattle.sentence.proofs.Tokens.{tokens-few}
-use Rattle.sheet.proofs.Held.{length-marks, rows-are}
+use Rattle.sentence.proofs.Cells.{length-marks, rows-are, row-at}
 
 -- ---- tags
 escape-one : (k : Kind) (c : ℕ) → size (escapeAs k c) ≤ 2 * width c
@@ -59,16 +58,6 @@ unfolding size
 drop-size zero cs = omega arith
 drop-size (suc k) [] = omega arith
 drop-size (suc k) (c ∷ cs) = omega (arith, drop-size k cs)
-
--- a row, or none past the last
-no-row : (n : ℕ) → Row n []
-unfolding cut
-no-row n = record { chars = tt; is-cut = refl; fits = omega arith }
-
-row-at : (n i : ℕ) (rs : List (List Tag)) → All (Row n) rs → Row n (getD rs i [])
-row-at n i [] h = no-row n
-row-at n zero (r ∷ rs) h = h .0
-row-at n (suc i) (r ∷ rs) h = row-at n i rs (h .1)
 
 bytes-at : (i : ℕ) (rs : List (List Tag)) → rowBytes (getD rs i []) ≤ tagBytes rs
 unfolding rowBytes tagBytes

@@ -17,7 +17,7 @@ use Rattle.sentence.proofs.Shape.{read-formed}
 use Rattle.sheet.specs.Eight.{each}
 use Rattle.sheet.specs.Layout.{Buffers, Same, recordOf, takes, enough, roomFor, laid}
 use Rattle.sheet.proofs.Eights.{same-self}
-use Rattle.sheet.proofs.Held.{length-marks}
+use Rattle.sentence.proofs.Cells.{length-marks}
 use Rattle.sheet.specs.declared.Answer.{Answer}
 use Rattle.sheet.specs.declared.Answer.the-variants as answer
 use Rattle.sheet.specs.declared.Record.{Record}

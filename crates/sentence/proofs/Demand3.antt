@@ -1,23 +1,22 @@
 -- Demand 3 about the definitions: written lines tell sentences apart, read back, and survive the trip through the tokenized form. Assumes nothing.
-use Prim.Native.Nat.{ℕ, zero, _+_, _-_, _≤_}
+use Prim.Native.Nat.{ℕ, _≤_}
 use mathlib.Core.Path.{_≡_, refl, sym, ap, subst, _∙_}
 use mathlib.Core.Logic.{_↔_}
-use mathlib.Core.Bool.{true, false}
-use mathlib.Core.List.{List, [], _∷_, _++_, map}
+use mathlib.Core.Bool.{true}
+use mathlib.Core.List.{List, [], _∷_, map}
 use native.Mathlib.Omega.{arith}
-use lib.Dec.{ltb}
 use lib.ListN.{length}
 use borrow.Author.Tests.{le-ltb}
 use Rattle.laws.specs.If.{if-false}
 use Rattle.laws.specs.All.{All, All-append}
-use Rattle.utf8.specs.Utf8.{scalars, validPrefix, scalar}
+use Rattle.utf8.specs.Utf8.{scalars, validPrefix, scalar, encodes}
 use Rattle.utf8.proofs.Codec.{scalars-encodes, valid-encodes}
 use Rattle.sentence.specs.Sentence.{Tag, Mark, none, word, unknown, Cells, final, cell, Sentence, textOf, marksOf, rowsOf, text, marks, table, onto, cut, pad, Char, Row, CellsOf, Formed, Agree, NoUnknown, NoneInside}
 use Rattle.sentence.specs.declared.Form.{Form}
 use Rattle.sentence.specs.declared.Form.the-variants.{Raw as raw, Tokenized as tokenized, Partial as partial}
-use Rattle.sentence.specs.Reading.{Annotated, Kind, mark, slash, back, plain, kind, Run, whole, stopped, next, parsed, gather, sentence, refused, built, placed, read}
+use Rattle.sentence.specs.Reading.{Annotated, Kind, mark, slash, back, plain, kind, start, at, Run, whole, stopped, next, parsed, gather, sentence, built, placed, read}
 use Rattle.sentence.specs.Writing.{escapeAs, escape, writeTags, sign, shown, writePartial, line, written}
-use Rattle.sentence.proofs.Runs.{got, gathered}
+use Rattle.sentence.proofs.Runs.{got, gathered, reads}
 use Rattle.sentence.proofs.Trips.{cut-pad, pad-shows, shown-shows, Whole, plainly, line-plainly, Fits, reads-line}
 use Rattle.sentence.proofs.Shape.{ReadIn, read-formed}
 
@@ -49,7 +48,7 @@ agree-same s t h k a =
     ap (λ (c : Cells). record { cells = c; columns = s .columns }) v ∙ ap (λ (n : ℕ). record { cells = t .cells; columns = n }) (a .column-counts)
 
 -- ---- a written line is of scalar values
-abbrev Scalars : List ℕ → Type 0
+abbrev pub Scalars : List ℕ → Type 0
 Scalars x = All (λ c. scalar c ≡ true) x
 
 escapeAs-scalars : (k : Kind) (c : ℕ) → scalar c ≡ true → Scalars (escapeAs k c)
@@ -59,23 +58,23 @@ escapeAs-scalars slash c h = (refl, (h, tt))
 escapeAs-scalars back c h = (refl, (h, tt))
 escapeAs-scalars plain c h = (h, tt)
 
-escape-scalars : (f : Form) (t : List ℕ) → All Char t → Scalars (escape f t)
+pub escape-scalars : (f : Form) (t : List ℕ) → All Char t → Scalars (escape f t)
 unfolding escape
 escape-scalars f [] h = tt
 escape-scalars f (c ∷ t) h = All-append _ (escapeAs (kind f c) c) (escape f t) (escapeAs-scalars (kind f c) c (h .0 .is-scalar)) (escape-scalars f t (h .1))
 
-tags-scalars : (f : Form) (ts : List Tag) → All (All Char) ts → Scalars (writeTags f ts)
+pub tags-scalars : (f : Form) (ts : List Tag) → All (All Char) ts → Scalars (writeTags f ts)
 unfolding writeTags scalar
 tags-scalars f [] h = tt
 tags-scalars f (t ∷ ts) h = (refl, All-append _ (escape f t) (writeTags f ts) (escape-scalars f t (h .0)) (tags-scalars f ts (h .1)))
 
-sign-scalar : (m : Mark) → scalar (sign m) ≡ true
+pub sign-scalar : (m : Mark) → scalar (sign m) ≡ true
 unfolding sign scalar
 sign-scalar none = refl
 sign-scalar word = refl
 sign-scalar unknown = refl
 
-partial-scalars : (n : ℕ) (s : Cells) → CellsOf n s → Scalars (writePartial n s)
+pub partial-scalars : (n : ℕ) (s : Cells) → CellsOf n s → Scalars (writePartial n s)
 unfolding writePartial
 partial-scalars n (final c r) h = (h .0 .is-scalar, tags-scalars partial (pad n r) (pad-shows n r (h .1) .chars))
 partial-scalars n (cell c r m s) h = (
@@ -102,7 +101,7 @@ line-scalars partial s h w = partial-scalars (s .columns) (s .cells) h
 
 -- ---- canonicity, reading back
 -- what a form read, it can write and read again
-fits-read : (f : Form) (s : Cells) → Annotated f → ReadIn f s → Fits f s
+pub fits-read : (f : Form) (s : Cells) → Annotated f → ReadIn f s → Fits f s
 fits-read raw s an w = absurd an
 fits-read tokenized s an w = w
 fits-read partial s an w = tt
@@ -136,15 +135,19 @@ unfolding gathered placed built
 placed-got k (whole l) t ts n m s e = let g : gather l ≡ parsed t ts n (next m s) = cc in rw g
 placed-got k (stopped j left) t ts n m s e = absurd (let z : _≡_ {A = ℕ} 0 1 = cc in omega arith)
 
+-- characters that gather to cells, as a line of at most 4,096 bytes
+pub read-chars : (f : Form) (cs : List ℕ) (n : ℕ) (m : Mark) (c : Cells) → Scalars cs → length (encodes cs) ≤ 4096
+    → reads f (at start) cs ≡ got (parsed [] [] n (next m c)) → read f (encodes cs) ≡ sentence (record { cells = c; columns = n })
+unfolding read
+read-chars f cs n m c u le e =
+    let v : length (encodes cs) ≤ validPrefix (encodes cs) = omega (arith, valid-encodes cs u) in
+    if-false _ _ _ (le-ltb 4096 (length (encodes cs)) le)
+    ∙ if-false _ _ _ (le-ltb (validPrefix (encodes cs)) (length (encodes cs)) v)
+    ∙ rw (scalars-encodes cs u) (placed-got (length (encodes cs)) _ [] [] n m c e)
+
 -- a sentence that fits a form is read back from its written line of at most 4,096 bytes
 pub read-written : (f : Form) (s : Sentence) → CellsOf (s .columns) (s .cells) → Fits f (s .cells) → length (written f s) ≤ 4096 → read f (written f s) ≡ sentence s
-unfolding read
-read-written f s h w le =
-    let u = line-scalars f s h w in
-    let v : length (written f s) ≤ validPrefix (written f s) = omega (arith, valid-encodes (line f s) u) in
-    if-false _ _ _ (le-ltb 4096 (length (written f s)) le)
-    ∙ if-false _ _ _ (le-ltb (validPrefix (written f s)) (length (written f s)) v)
-    ∙ rw (scalars-encodes (line f s) u) (placed-got (length (written f s)) _ [] [] (s .columns) none (s .cells) (reads-line f s h w))
+read-written f s h w le = read-chars f (line f s) (s .columns) none (s .cells) (line-scalars f s h w) le (reads-line f s h w)
 
 -- a written line of at most 4,096 bytes reads back to the same sentence
 pub reads-back : (f : Form) → Annotated f → (x : List ℕ) (s : Sentence) → read f x ≡ sentence s → length (written f s) ≤ 4096 → read f (written f s) ≡ sentence s

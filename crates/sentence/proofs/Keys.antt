@@ -8,6 +8,7 @@ use Rattle.sentence.specs.Sentence.{Mark, none, Cells, Sentence, textOf,
 use Rattle.sentence.specs.declared.Form.the-variants.{Partial as partial}
 use Rattle.sentence.specs.Reading.{sentence, read}
 use Rattle.sentence.specs.Writing.{written, key}
+use Rattle.sentence.specs.Joined.{join}
 use Rattle.sentence.specs.Withheld.{trimmed, withheld, Outside, SameNote}
 use Rattle.sentence.proofs.Demand3.{agree-same, same-read, read-written}
 use Rattle.sentence.proofs.Withheld.{same-withheld, withheld-none, formed-trimmed}
@@ -50,6 +51,14 @@ agree-note s t f g = (
     agreed c n =
         let e : s ≡ t = ap (λ (x : Cells). record { cells = x; columns = s .columns }) c ∙ ap (λ (m : ℕ). record { cells = t .cells; columns = m }) n in
         record { texts = ap text e; boundaries = ap marks e; column-counts = n; padded-tags = ap table e }
+
+-- the same notes joined by one boundary are the same note
+pub note-joined : (m : Mark) (s t u v : Sentence) → Formed s → Formed t → Formed u → Formed v → SameNote s u → SameNote t v → SameNote (join m s t) (join m u v)
+unfolding join
+note-joined m s t u v f g h k a b =
+    let c : s .cells ≡ u .cells = trimmed-cells s u (note-trimmed s u f h a) in
+    let d : t .cells ≡ v .cells = trimmed-cells t v (note-trimmed t v g k b) in
+    cells-note (join m s t) (join m u v) (rw (c, d))
 
 -- ---- a key of at most 4,096 bytes reads back, to the note with only the columns in use
 pub key-reads : (s : Sentence) → Formed s → length (key s) ≤ 4096 → read partial (key s) ≡ sentence (trimmed s)

@@ -1,4 +1,5 @@
 pub mod Forms
+pub mod Cells
 pub mod Runs
 pub mod Trips
 pub mod Shape
@@ -6,3 +7,6 @@ pub mod Demand3
 pub mod Tokens
 pub mod Withheld
 pub mod Keys
+pub mod Joined
+pub mod Lone
+pub mod Accepted

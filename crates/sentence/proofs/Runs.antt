@@ -34,18 +34,18 @@ unfolding gathered push adds gather
 gathered-push a (whole l) = refl
 gathered-push a (stopped e left) = refl
 
-adds-skip : (g : Got) → adds skip g ≡ g
+pub adds-skip : (g : Got) → adds skip g ≡ g
 unfolding adds add
 adds-skip (got p) = refl
 adds-skip (bad e left) = refl
 
-kind-back : (f : Form) → Annotated f → kind f 92 ≡ back
+pub kind-back : (f : Form) → Annotated f → kind f 92 ≡ back
 unfolding kind if_then_else_
 kind-back raw h = absurd h
 kind-back tokenized h = refl
 kind-back partial h = refl
 
-kind-slash : (f : Form) → Annotated f → kind f 47 ≡ slash
+pub kind-slash : (f : Form) → Annotated f → kind f 47 ≡ slash
 unfolding kind if_then_else_
 kind-slash raw h = absurd h
 kind-slash tokenized h = refl

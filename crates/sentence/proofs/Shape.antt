@@ -56,40 +56,60 @@ abbrev pub StepOf : ℕ → Step → Type 0
 StepOf c (go σ a) = ActOf c a
 StepOf c (stop e) = Unit {0}
 
-ordinary-of : (f : Form) (p : Place) (c : ℕ) → StepOf c (ordinary f p c)
+-- what a step can be: text, a character of a tag, a boundary, an open tag, a backslash, or a refusal
+pub data Shown (σ : State) (k : Kind) (c : ℕ) : Step → Type 0 where
+  a-letter : (m : Mark) → Shown σ k c (go (at behind) (letter m c))
+  of-tag : Shown σ k c (go (at inTag) (ofTag c))
+  a-mark : (m : Mark) → k ≡ mark m → Shown σ k c (go (at (gap m)) skip)
+  a-tag : Shown σ k c (go (at inTag) opens)
+  a-back : (p : Place) → k ≡ back → σ ≡ at p → Shown σ k c (go (escaped p) skip)
+  a-stop : (e : ℕ) → Shown σ k c (stop e)
+
+ordinary-shown : (σ : State) (k : Kind) (f : Form) (p : Place) (c : ℕ) → Shown σ k c (ordinary f p c)
 unfolding ordinary
-ordinary-of f start c = refl
-ordinary-of f (gap m) c = refl
-ordinary-of f inTag c = refl
-ordinary-of raw behind c = refl
-ordinary-of tokenized behind c = refl
-ordinary-of partial behind c = tt
+ordinary-shown σ k f start c = a-letter none
+ordinary-shown σ k f (gap m) c = a-letter m
+ordinary-shown σ k f inTag c = of-tag
+ordinary-shown σ k raw behind c = a-letter unknown
+ordinary-shown σ k tokenized behind c = a-letter none
+ordinary-shown σ k partial behind c = a-stop 9
 
-inside-of : (f : Form) (p : Place) (k : Kind) (c : ℕ) → StepOf c (inside f p k c)
+inside-shown : (f : Form) (p : Place) (k : Kind) (c : ℕ) → Shown (at p) k c (inside f p k c)
 unfolding inside
-inside-of f p (mark m) c = tt
-inside-of f p slash c = tt
-inside-of f p back c = tt
-inside-of f p plain c = ordinary-of f p c
+inside-shown f p (mark m) c = a-mark m refl
+inside-shown f p slash c = a-tag
+inside-shown f p back c = a-back p refl refl
+inside-shown f p plain c = ordinary-shown (at p) plain f p c
 
-opening-of : (e : ℕ) (p : Place) (k : Kind) (c : ℕ) → StepOf c (opening e p k c)
+opening-shown : (e : ℕ) (p : Place) (k : Kind) (c : ℕ) → Shown (at p) k c (opening e p k c)
 unfolding opening
-opening-of e p (mark m) c = tt
-opening-of e p slash c = tt
-opening-of e p back c = tt
-opening-of e p plain c = ordinary-of tokenized p c
+opening-shown e p (mark m) c = a-stop e
+opening-shown e p slash c = a-stop 7
+opening-shown e p back c = a-back p refl refl
+opening-shown e p plain c = ordinary-shown (at p) plain tokenized p c
+
+pub step-shown : (f : Form) (σ : State) (k : Kind) (c : ℕ) → Shown σ k c (step f σ k c)
+unfolding step
+step-shown f (escaped p) k c = ordinary-shown (escaped p) k f p c
+step-shown f (at behind) k c = inside-shown f behind k c
+step-shown f (at inTag) k c = inside-shown f inTag k c
+step-shown raw (at start) k c = ordinary-shown (at start) k raw start c
+step-shown raw (at (gap m)) k c = ordinary-shown (at (gap m)) k raw (gap m) c
+step-shown partial (at start) k c = ordinary-shown (at start) k partial start c
+step-shown partial (at (gap m)) k c = ordinary-shown (at (gap m)) k partial (gap m) c
+step-shown tokenized (at start) k c = opening-shown 5 start k c
+step-shown tokenized (at (gap m)) k c = opening-shown 6 (gap m) k c
 
 pub step-of : (f : Form) (σ : State) (k : Kind) (c : ℕ) → StepOf c (step f σ k c)
-unfolding step
-step-of f (escaped p) k c = ordinary-of f p c
-step-of f (at behind) k c = inside-of f behind k c
-step-of f (at inTag) k c = inside-of f inTag k c
-step-of raw (at start) k c = ordinary-of raw start c
-step-of raw (at (gap m)) k c = ordinary-of raw (gap m) c
-step-of partial (at start) k c = ordinary-of partial start c
-step-of partial (at (gap m)) k c = ordinary-of partial (gap m) c
-step-of tokenized (at start) k c = opening-of 5 start k c
-step-of tokenized (at (gap m)) k c = opening-of 6 (gap m) k c
+step-of f σ k c = on (step f σ k c) (step-shown f σ k c)
+  where
+    on : (s : Step) → Shown σ k c s → StepOf c s
+    on s (a-letter m) = refl
+    on s of-tag = refl
+    on s (a-mark m e) = tt
+    on s a-tag = tt
+    on s (a-back p e i) = tt
+    on s (a-stop n) = tt
 
 -- ---- what holds at a line's end, and before a character where it holds after it, holds of what a run gathers
 module _ (f : Form) (P : State → List ℕ → Parsed → Type 0) where
@@ -276,7 +296,7 @@ Shaped (gap none) ts r = Unit {0}
 Shaped (gap word) ts r = Ended r
 Shaped (gap unknown) ts r = Unit {0}
 
-abbrev placeOf : State → Place
+abbrev pub placeOf : State → Place
 placeOf (at p) = p
 placeOf (escaped p) = p
 

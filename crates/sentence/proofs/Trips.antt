@@ -113,27 +113,27 @@ module _ (f : Form) (an : Annotated f) (n c : ℕ) (r : List Tag) (h : Row n r) 
       rw (rw append-nil at (w .from-char), s .row, l)
 
 -- ---- the partial form
-kind-sign : (m : Mark) → kind partial (sign m) ≡ mark m
+pub kind-sign : (m : Mark) → kind partial (sign m) ≡ mark m
 unfolding kind sign if_then_else_
 kind-sign none = refl
 kind-sign word = refl
 kind-sign unknown = refl
 
-char-sign : (m : Mark) → eqb (sign m) 0 ≡ false
+pub char-sign : (m : Mark) → eqb (sign m) 0 ≡ false
 unfolding sign
 char-sign none = refl
 char-sign word = refl
 char-sign unknown = refl
 
 -- where a character is taken literally, with the boundary m before it
-record Literal (p : Place) (m : Mark) : Type 0 where
-  literally : (k : Kind) (c : ℕ) → step partial (at p) k c ≡ go (at behind) (letter m c)
+pub record Literal (p : Place) (m : Mark) : Type 0 where
+  pub literally : (k : Kind) (c : ℕ) → step partial (at p) k c ≡ go (at behind) (letter m c)
 
-literal-gap : (m : Mark) → Literal (gap m) m
+pub literal-gap : (m : Mark) → Literal (gap m) m
 unfolding step ordinary
 literal-gap m = record { literally = λ k c. refl }
 
-literal-start : Literal start none
+pub literal-start : Literal start none
 unfolding step ordinary
 literal-start = record { literally = λ k c. refl }
 
@@ -161,28 +161,28 @@ plainly n (cell c r word s) = escapeAs (kind tokenized c) c ++ (writeTags tokeni
 plainly n (cell c r unknown s) = []
 
 -- where an ordinary character is text, with the boundary m before it
-record Takes (p : Place) (m : Mark) : Type 0 where
-  escapes : step tokenized (at p) back 92 ≡ go (escaped p) skip
-  plainly-so : (c : ℕ) → step tokenized (at p) plain c ≡ ordinary tokenized p c
-  puts : (c : ℕ) → ordinary tokenized p c ≡ go (at behind) (letter m c)
+pub record Takes (p : Place) (m : Mark) : Type 0 where
+  pub escapes : step tokenized (at p) back 92 ≡ go (escaped p) skip
+  pub plainly-so : (c : ℕ) → step tokenized (at p) plain c ≡ ordinary tokenized p c
+  pub puts : (c : ℕ) → ordinary tokenized p c ≡ go (at behind) (letter m c)
 
-takes-start : Takes start none
+pub takes-start : Takes start none
 unfolding step opening ordinary
 takes-start = record { escapes = refl; plainly-so = λ c. refl; puts = λ c. refl }
 
-takes-behind : Takes behind none
+pub takes-behind : Takes behind none
 unfolding step inside ordinary
 takes-behind = record { escapes = refl; plainly-so = λ c. refl; puts = λ c. refl }
 
-takes-gap : (m : Mark) → Takes (gap m) m
+pub takes-gap : (m : Mark) → Takes (gap m) m
 unfolding step opening ordinary
 takes-gap m = record { escapes = refl; plainly-so = λ c. refl; puts = λ c. refl }
 
-takes : {p : Place} {m : Mark} → Takes p m → (c : ℕ) (x : List ℕ) → eqb c 0 ≡ false
+pub takes : {p : Place} {m : Mark} → Takes p m → (c : ℕ) (x : List ℕ) → eqb c 0 ≡ false
     → reads tokenized (at p) (escapeAs (kind tokenized c) c ++ x) ≡ adds (letter m c) (reads tokenized (at behind) x)
 takes {p} o c x z = reads-char tokenized tt p (kind tokenized c) c x refl z (o .escapes) (o .plainly-so c) (o .puts c)
 
-kind-space : kind tokenized 32 ≡ mark word
+pub kind-space : kind tokenized 32 ≡ mark word
 unfolding kind if_then_else_
 kind-space = refl
 

@@ -10,15 +10,17 @@ use lib.Dec.{leb, ltb}
 use borrow.Author.Tests.{le-ltb, lt-ltb, le-leb, lt-leb, leb-true, leb-false, ltb-true, ltb-false}
 use lib.ListN.{length, getD}
 use Rattle.laws.specs.If.{if_then_else_, if-true, if-false}
-use Rattle.laws.specs.All.{All}
+use Rattle.laws.specs.All.{All-imp}
 use Rattle.laws.proofs.Facts.{neither}
-use Rattle.utf8.specs.Utf8.{validPrefix, scalar, encodes}
-use Rattle.utf8.proofs.Codec.{length-encodes, scalars-encodes, valid-encodes}
-use Rattle.sentence.specs.Sentence.{Tag, Mark, none, unknown, Cells, final, cell, Sentence, textOf, marksOf, rowsOf, text, marks, count, onto, cut, rowBytes, tagBytes, Row, CellsOf, Formed}
+use Rattle.utf8.specs.Utf8.{encodes}
+use Rattle.utf8.proofs.Codec.{length-encodes}
+use Rattle.sentence.specs.Sentence.{Tag, Mark, none, unknown, Cells, final, cell, Sentence, textOf, marksOf, rowsOf, text, marks, count, onto, cut, rowBytes, tagBytes, Char, Row, CellsOf, Formed}
 use Rattle.sentence.specs.declared.Form.the-variants.{Raw as raw, Partial as partial}
-use Rattle.sentence.specs.Reading.{plain, kind, behind, start, State, at, Act, letter, go, ordinary, inside, step, advance, whole, ending, finish, push, follow, run, next, parsed, before, add, gather, sentence, built, placed, read}
+use Rattle.sentence.specs.Reading.{plain, kind, behind, start, State, at, Act, letter, go, ordinary, inside, step, advance, whole, ending, finish, push, follow, run, next, parsed, before, add, gather, sentence, read}
 use Rattle.sentence.specs.Writing.{written}
-use Rattle.sentence.proofs.Demand3.{same-read, read-written}
+use Rattle.sentence.proofs.Runs.{got, gathered}
+use Rattle.sentence.proofs.Cells.{text-chars}
+use Rattle.sentence.proofs.Demand3.{same-read, read-chars, read-written}
 use Rattle.sentence.specs.Withheld.{inRange, touches, hidden, widest, trimmed, withheld, tagIn, Outside, Copy}
 
 -- ---- which characters are in a range
@@ -326,21 +328,14 @@ unfolding widest textOf hidden if_then_else_
 widest-all e i (final c r) h = rw (in-all e i (omega arith))
 widest-all e i (cell c r l s) h = rw (in-all e i (omega arith), widest-all e (i + 1) s (omega arith))
 
-text-scalars : (n : ℕ) (s : Cells) → CellsOf n s → All (λ c. scalar c ≡ true) (textOf s)
-unfolding textOf
-text-scalars n (final c r) h = (h .0 .is-scalar, tt)
-text-scalars n (cell c r m s) h = (h .0 .is-scalar, text-scalars n s (h .2))
-
 pub withheld-all : (e : ℕ) (s : Sentence) → Formed s → count s ≤ e → read raw (encodes (text s)) ≡ sentence (withheld 0 e s)
-unfolding read placed built withheld trimmed step ordinary
+unfolding withheld trimmed step ordinary gathered
 withheld-all e s f h =
-    let u = text-scalars (s .columns) (s .cells) (f .cells-are) in
+    let u = All-imp Char _ (λ c p. p .is-scalar) (text s) (text-chars (s .columns) (s .cells) (f .cells-are)) in
     let l : length (encodes (text s)) ≤ 4096 = omega (arith, length-encodes (text s), f .text-fits) in
-    let v : length (encodes (text s)) ≤ validPrefix (encodes (text s)) = omega (arith, valid-encodes (text s) u) in
     let z : 0 + count s ≤ e = omega arith in
-    if-false _ _ _ (le-ltb 4096 (length (encodes (text s))) l)
-    ∙ if-false _ _ _ (le-ltb (validPrefix (encodes (text s))) (length (encodes (text s))) v)
-    ∙ rw (scalars-encodes (text s) u, raw-runs (at start) none (s .columns) (s .cells) (λ c. refl) (f .cells-are), gather-letters e 0 none (s .cells) z, widest-all e 0 (s .cells) z)
+    let g = ap gathered (raw-runs (at start) none (s .columns) (s .cells) (λ c. refl) (f .cells-are)) ∙ ap got (gather-letters e 0 none (s .cells) z) in
+    rw (widest-all e 0 (s .cells) z) (read-chars raw (text s) 0 none _ u l g)
 
 -- so the text alone tells it
 pub withheld-by-text : (e : ℕ) (s t : Sentence) → Formed s → Formed t → count s ≤ e → text s ≡ text t → withheld 0 e s ≡ withheld 0 e t

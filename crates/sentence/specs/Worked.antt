@@ -10,7 +10,7 @@ use Rattle.laws.specs.Quoted.{quoted}
 use Rattle.utf8.specs.Utf8.{utf8-2, utf8-3, utf8-4, charOf, walk, wholes, values, width, encode, encodes, size}
 use Rattle.utf8.specs.Text.{text-of}
 use Rattle.types.specs.TypeOf.{find, ranges, typeOf}
-use Rattle.sentence.specs.Sentence.{Tag, none, word, code, final, Sentence, textOf, marksOf, rowsOf, text, marks, rows}
+use Rattle.sentence.specs.Sentence.{Tag, none, word, unknown, code, final, Sentence, textOf, marksOf, rowsOf, text, marks, rows}
 use Rattle.sentence.specs.Sentence.{count, types, starts, numbers, charPositions, bytePositions, onto, cut, pad}
 use Rattle.sentence.specs.declared.Form.{Form}
 use Rattle.sentence.specs.declared.Form.the-variants.{Raw as raw, Tokenized as tokenized, Partial as partial}
@@ -19,6 +19,7 @@ use Rattle.sentence.specs.Reading.{Result, sentence, refused, built, pla
 use Rattle.sentence.specs.Writing.{Token, token, tokens, tokensFrom, Served, serves, done, first, nextToken, escapeAs, escape, writeTags}
 use Rattle.sentence.specs.Writing.{writeToken, joined, sign, shown, writePartial, line, written, key, bare, marked, resetTags, setMark, setBoundary}
 use Rattle.sentence.specs.Writing.{decision, scored, blank}
+use Rattle.sentence.specs.Joined.{glue, glued}
 use Rattle.sentence.specs.Withheld.{inRange, touches, hidden, widest, trimmed, withheld}
 
 -- what can be asked of a line that is read
@@ -183,6 +184,29 @@ worked =
     ∷ case partial (text-of "a/x|b/y-c//z") (the-withheld 0 3) (text-of "a b c")
     ∷ case partial (text-of "a/x|b/y-c//z") (the-withheld 2 3) (text-of "a/x|b/y c/")
     ∷ case partial (text-of "a/x|b/y-c//z") (the-withheld 0 0) (text-of "a/x/|b/y-c//z")
+    -- joined: tokenized lines by a word boundary, partial ones by any, raw ones with nothing between by an unknown one
+    ∷ case tokenized (glued tokenized word (text-of "a") (text-of "b")) (the-line partial) (text-of "a|b")
+    ∷ case partial (glued partial none (text-of "a") (text-of "b")) (the-line partial) (text-of "a-b")
+    ∷ case partial (glued partial word (text-of "a") (text-of "b")) (the-line partial) (text-of "a|b")
+    ∷ case partial (glued partial unknown (text-of "a") (text-of "b")) (the-line partial) (text-of "a b")
+    ∷ case raw (glued raw unknown (text-of "a") (text-of "b")) (the-line partial) (text-of "a b")
+    -- with a space between them there would be three characters
+    ∷ case raw (text-of "a b") the-boundaries (2 ∷ 2 ∷ [])
+    -- the larger number of columns, which the writer then writes for each token
+    ∷ case tokenized (glued tokenized word (text-of "a/x") (text-of "b")) the-columns (1 ∷ [])
+    ∷ case tokenized (glued tokenized word (text-of "a/x") (text-of "b")) (the-line tokenized) (text-of "a/x b/")
+    -- a lone backslash makes what stands between them text, or part of a tag, or is refused
+    ∷ case tokenized (glued tokenized word (text-of "a\\") (text-of "b")) (the-line partial) (text-of "a- -b")
+    ∷ case partial (glued partial word (text-of "a/x\\") (text-of "b")) (the-line partial) (text-of "a/x\\|b")
+    ∷ case partial (glued partial word (text-of "a\\") (text-of "b")) the-refusal (9 ∷ 2 ∷ [])
+    -- where the partial form awaits a character, a backslash is one, and is not lone
+    ∷ case partial (glued partial word (text-of "\\") (text-of "b")) (the-line partial) (text-of "\\|b")
+    -- an empty line is joined to nothing
+    ∷ case tokenized (glued tokenized word [] (text-of "b")) the-refusal (5 ∷ 0 ∷ [])
+    ∷ case tokenized (glued tokenized word (text-of "a") []) the-refusal (8 ∷ 2 ∷ [])
+    ∷ case partial (glued partial word [] (text-of "/")) (the-line partial) (text-of "|/")
+    -- skipped tokens are not in the tokenized line that is joined
+    ∷ case partial (text-of "a b|c") (the-line tokenized) (text-of "c")
     ∷ []
 
 pub given : Case → List ℕ
@@ -193,5 +217,5 @@ pub worked-lines : map given worked ≡ map (λ (c : Case). c .wanted) worked
 unfolding worked quoted given told answer spans servedAs tagsAs if_then_else_ utf8-2 utf8-3 utf8-4 charOf walk wholes values width encode encodes size find
     ranges typeOf code textOf marksOf rowsOf starts numbers onto cut pad kind ordinary inside opening step advance unfinished ending finish push follow run
     before add gather built placed read tokens first nextToken escapeAs escape writeTags writeToken joined sign shown writePartial line bare marked
-    resetTags setMark setBoundary decision scored blank inRange touches hidden widest trimmed withheld
+    resetTags setMark setBoundary decision scored blank inRange touches hidden widest trimmed withheld glue
 worked-lines = refl

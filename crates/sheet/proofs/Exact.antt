@@ -8,7 +8,7 @@ use borrow.Author.Tests.{eq-eqb, eqb-true, le-leb, leb-true}
 use lib.Dec.{leb}
 use lib.ListN.{length, take, drop, length-map, length-take, length-drop, take-append-drop}
 use lib.Seq.{length-take-le, drop-drop, drop-length, take-append-le, drop-append-le, take-at, drop-at}
-use Rattle.laws.specs.All.{All, All-imp}
+use Rattle.laws.specs.All.{All, All-imp, All-take, All-drop}
 use Rattle.laws.proofs.Facts.{reads}
 use Rattle.utf8.specs.Utf8.{scalars, encodes, size}
 use Rattle.utf8.proofs.Codec.{length-encodes, scalars-encodes, size-long}
@@ -23,7 +23,8 @@ use Rattle.sheet.specs.Eight.{Which, the-text, the-types, the-boundaries
 use Rattle.sheet.specs.Layout.{Buffers, recordOf, tagsOf, cellsOf, cellStarts, bytesOf, lay, takes, enough, roomFor, AtLeast, Front, Holds, slices, rowsBy, markOf, link, spell, Sheet}
 use Rattle.sheet.specs.Check.{inLimits, isLaid, Room, isSheet}
 use Rattle.sheet.proofs.Eights.{in-order, every, one, pick-each, all-true, true-all}
-use Rattle.sheet.proofs.Held.{prefixes-held, length-marks, length-cellStarts, length-bytesOf, bytes-tagsOf, bytes-same, n-held, b-held, columns-held, cells-held, g-held, text-held, types-held, boundaries-held, char-pos-held, byte-pos-held, cell-starts-held, cell-lengths-held, tag-bytes-held, text-chars-held, cells-chars-held}
+use Rattle.sentence.proofs.Cells.{length-marks}
+use Rattle.sheet.proofs.Held.{prefixes-held, length-cellStarts, length-bytesOf, bytes-tagsOf, bytes-same, n-held, b-held, columns-held, cells-held, g-held, text-held, types-held, boundaries-held, char-pos-held, byte-pos-held, cell-starts-held, cell-lengths-held, tag-bytes-held, text-chars-held, cells-chars-held}
 
 -- ---- boundaries
 marks-are : (ms : List ℕ) → areMarks ms ≡ true → map code (map markOf ms) ≡ ms
@@ -94,16 +95,6 @@ record RowsAre (n k : ℕ) (ts : List Tag) (rs : List (List Tag)) : Type 0 where
   cells : cellsOf n rs ≡ ts
   rows : All (Row n) rs
   many : length rs ≡ k
-
-All-take : {A : Type 0} (P : A → Type 0) (n : ℕ) (l : List A) → All P l → All P (take n l)
-All-take P zero l a = tt
-All-take P (suc n) [] a = tt
-All-take P (suc n) (x ∷ l) a = (a .0, All-take P n l (a .1))
-
-All-drop : {A : Type 0} (P : A → Type 0) (n : ℕ) (l : List A) → All P l → All P (drop n l)
-All-drop P zero l a = a
-All-drop P (suc n) [] a = tt
-All-drop P (suc n) (x ∷ l) a = All-drop P n l (a .1)
 
 row-is : (n : ℕ) (ts : List Tag) → All (All Char) ts → length ts ≡ n → Row n (cut ts)
 row-is n ts a e = let c = cut-row 0 ts a in record { chars = c .chars; is-cut = c .is-cut; fits = omega (arith, c .fits) }

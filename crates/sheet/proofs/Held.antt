@@ -11,7 +11,8 @@ use Rattle.laws.specs.All.{All, All-append, All-imp}
 use Rattle.utf8.specs.Utf8.{scalars, encodes, size}
 use Rattle.utf8.proofs.Codec.{length-encodes, scalars-encodes}
 use Rattle.types.specs.TypeOf.{typeOf}
-use Rattle.sentence.specs.Sentence.{Tag, Mark, none, word, unknown, code, Cells, final, cell, Sentence, textOf, marksOf, rowsOf, text, marks, rows, types, charPositions, bytePositions, pad, rowBytes, tagBytes, Char, Row, CellsOf, Formed}
+use Rattle.sentence.specs.Sentence.{Tag, Mark, none, word, unknown, code, Cells, final, cell, Sentence, textOf, marksOf, rowsOf, text, marks, rows, types, charPositions, bytePositions, pad, rowBytes, tagBytes, Char, Row, Formed}
+use Rattle.sentence.proofs.Cells.{length-marks, length-rows, text-chars, rows-are}
 use Rattle.sentence.proofs.Trips.{all-absent, cut-pad, pad-length}
 pub use Rattle.sheet_check.proofs.Says.{length-starts, length-numbers}
 use Rattle.sheet.specs.declared.Record.{Record}
@@ -24,16 +25,6 @@ unfolding laid
 laid-holds s d f h = record { formed = f; record-is = refl; lies = every (λ i. rw (pick-pairwise over (lay s) d i) (take-append-seam (pick (lay s) i) _)) }
 
 -- ---- how long the lists are
-pub length-marks : (s : Cells) → length (textOf s) ≡ length (marksOf s) + 1
-unfolding textOf marksOf
-length-marks (final c r) = refl
-length-marks (cell c r m s) = omega (arith, length-marks s)
-
-pub length-rows : (s : Cells) → length (rowsOf s) ≡ length (textOf s)
-unfolding textOf rowsOf
-length-rows (final c r) = refl
-length-rows (cell c r m s) = omega (arith, length-rows s)
-
 pub length-cellStarts : (g : ℕ) (ts : List Tag) → length (cellStarts g ts) ≡ length ts
 unfolding cellStarts
 length-cellStarts g [] = refl
@@ -88,16 +79,6 @@ cells-back (cell c r m (final d q)) = refl
 cells-back (cell c r m (cell d q l s)) = rw (cells-back (cell d q l s))
 
 -- ---- characters and tags of a well-formed sentence
-pub text-chars : (n : ℕ) (s : Cells) → CellsOf n s → All Char (textOf s)
-unfolding textOf
-text-chars n (final c r) h = (h .0, tt)
-text-chars n (cell c r m s) h = (h .0, text-chars n s (h .2))
-
-pub rows-are : (n : ℕ) (s : Cells) → CellsOf n s → All (Row n) (rowsOf s)
-unfolding rowsOf
-rows-are n (final c r) h = (h .1, tt)
-rows-are n (cell c r m s) h = (h .1, rows-are n s (h .2))
-
 pub cells-chars : (n : ℕ) (rs : List (List Tag)) → All (Row n) rs → All (All Char) (cellsOf n rs)
 unfolding cellsOf pad
 cells-chars n [] h = tt

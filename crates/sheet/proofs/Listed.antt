@@ -12,7 +12,8 @@ use Rattle.sentence.specs.Sentence.{Tag, Sentence, text, marks, rows, listed, C
 use Rattle.sheet.specs.declared.Record.{Record}
 use Rattle.sheet.specs.Layout.{Buffers, recordOf, tagsOf, bytesOf, Holds, spell}
 use Rattle.sheet.specs.Listed.{rowEnds, tagEnds, slicesTo, Lists, spellListed}
-use Rattle.sheet.proofs.Held.{length-rows, marks-back, cells-back, n-held, text-held, boundaries-held, text-chars-held, rows-held, spelled}
+use Rattle.sentence.proofs.Cells.{length-rows}
+use Rattle.sheet.proofs.Held.{marks-back, cells-back, n-held, text-held, boundaries-held, text-chars-held, rows-held, spelled}
 
 length-rowEnds : (k : ℕ) (rs : List (List Tag)) → length (rowEnds k rs) ≡ length rs
 unfolding rowEnds

@@ -26,7 +26,8 @@ use Rattle.sheet.specs.Layout.{Buffers, takes, AtLeast, cellsOf, cellSta
 use Rattle.sheet.specs.Check.{isSheet}
 use Rattle.sheet.proofs.Exact.{is-sheet}
 use Rattle.sheet.proofs.Eights.{every, one}
-use Rattle.sheet.proofs.Held.{prefixes-held, Prefix, length-marks, length-rows, length-bytesOf, rowBytes-append, bytes-joined, bytes-same, cells-bytes, cells-long, n-held, b-held, columns-held, cells-held, g-held, text-held, boundaries-held, char-pos-held, byte-pos-held, cell-starts-held, cell-lengths-held, tag-bytes-held, text-chars-held, rows-held}
+use Rattle.sentence.proofs.Cells.{length-marks, length-rows}
+use Rattle.sheet.proofs.Held.{prefixes-held, Prefix, length-bytesOf, rowBytes-append, bytes-joined, bytes-same, cells-bytes, cells-long, n-held, b-held, columns-held, cells-held, g-held, text-held, boundaries-held, char-pos-held, byte-pos-held, cell-starts-held, cell-lengths-held, tag-bytes-held, text-chars-held, rows-held}
 
 -- ---- a buffer that starts with a front of n elements
 pub prefix-at : {n : ℕ} {front d : List ℕ} → Prefix n front d → (i : ℕ) → i < n → getD d i 0 ≡ getD front i 0

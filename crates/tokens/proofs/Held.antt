@@ -5,7 +5,8 @@ use Rattle.utf8.proofs.Codec.{size-long}
 use Rattle.sentence.specs.Sentence.{Sentence, text, marks}
 use Rattle.sheet.specs.declared.Record.{Record}
 use Rattle.sheet.specs.Layout.{Buffers, Holds}
-use Rattle.sheet.proofs.Held.{length-marks, marks-back, n-held, boundaries-held}
+use Rattle.sentence.proofs.Cells.{length-marks}
+use Rattle.sheet.proofs.Held.{marks-back, n-held, boundaries-held}
 use Rattle.tokens.specs.Steps.{marksIn, Bounded}
 
 module _ {r : Record} {d : Buffers} {s : Sentence} (h : Holds r d s) where
