@@ -3,7 +3,7 @@
 set -u
 . "$(dirname "${BASH_SOURCE[0]}")/tools.sh"
 case ${1-} in
-check | bench | notes | duplicates) ;;
+check | joins | bench | notes | duplicates) ;;
 --help)
     cat "$here/both/usage.txt" || exit 2
     exit 0

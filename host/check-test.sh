@@ -1,20 +1,27 @@
 #!/usr/bin/env bash
-# Holds `both check` to noticing a wrong port: each part of each call's answer is made wrong in turn, and it must end with status 1 and name that part.
+# Holds `both check` and `both joins` to noticing a wrong port: each part of each call's answer is made wrong in turn, for `joins` some of them, and
+# they must end with status 1 and name that part.
 set -u
 . "$(dirname "${BASH_SOURCE[0]}")/tools.sh"
 no_words 'usage: host/check-test.sh
-Tests target/host/x86/both check, which host/link.sh builds. Status 0: all is well; 1: something is not; 2: it could not be run.' "$@"
+Tests target/host/x86/both check and joins, which host/link.sh builds. Status 0: all is well; 1: something is not; 2: it could not be run.' "$@"
 find_x86 || give_up_without "$(no_x86)"
 [ -x "$out/x86/wrong/both" ] || give_up_without "$out/x86/wrong/both (host/link.sh builds it)"
 said=$(mktemp) || exit 2
 trap 'rm -f "$said"' EXIT
 count=0
+words=(check --lines 300)
 
-# What `check` ends with on some drawn lines where a part is made wrong; what it says is kept.
+# What the words end with, on some drawn lines, where a part is made wrong; what is said is kept.
 asked() {
     local status=0
-    SPOIL=$1 "${run[@]}" "$out/x86/wrong/both" check --lines 300 >"$said" 2>&1 || status=$?
+    SPOIL=$1 "${run[@]}" "$out/x86/wrong/both" "${words[@]}" >"$said" 2>&1 || status=$?
     echo "$status"
+}
+
+# Ends the test where differences are found in a port that is not made wrong.
+right() {
+    [ "$(asked '')" = 0 ] || { echo "${words[0]} finds differences where the port is not made wrong:" && head -n 5 "$said" && exit 1; }
 }
 
 # notices SPOIL SAID [ALSO]: the part that is made wrong, and what every difference that is listed must name; ALSO is another name that it may have.
@@ -24,13 +31,13 @@ notices() {
     status=$(asked "$1")
     other=$(grep -E "^[RTP] '" "$said" | grep -vF -e "': $2" -e "': ${3:-$2}" | head -n 1)
     if [ "$status" != 1 ] || [ -n "$other" ] || ! grep -qF "': $2" "$said"; then
-        echo "check does not name '$2', and nothing else, where the port is wrong in '$1' (status $status):"
+        echo "${words[0]} does not name '$2', and nothing else, where the port is wrong in '$1' (status $status):"
         head -n 5 "$said" | cut -c1-300
         exit 1
     fi
 }
 
-[ "$(asked '')" = 0 ] || { echo 'check finds differences where the port is not made wrong:' && head -n 5 "$said" && exit 1; }
+right
 
 # The readers.
 notices 'reader: refuses' "the reader's answer: "
@@ -138,4 +145,16 @@ for part in number place accepts; do
     notices "step: $part 13" "the step's answer to a changed sheet: "
     notices "step: $part 14" "the step's answer to a short span: "
 done
-echo "check names each of $count parts that are made wrong"
+
+# The readers on lines glued together, and what is made of their sentences.
+checked=$count words=(joins --pairs 60)
+right
+notices 'reader: refuses' "the port's answer: "
+for part in N B cells G; do notices "reader: $part" "the port's numbers: "; done
+for part in columns text types boundaries 'char positions' 'byte positions' 'cell starts' 'cell lengths' 'tag bytes'; do
+    notices "reader: $part" "the port's $part: "
+done
+for part in number place accepts; do notices "reader: $part 1" "the port's answer: "; done
+for part in 'tokenized line' 'partial line'; do notices "writer: $part" "the port's $part: "; done
+for part in start end; do notices "step: $part" "the port's tokens: "; done
+echo "check names each of $checked parts that are made wrong, joins each of $((count - checked))"

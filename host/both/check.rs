@@ -2,42 +2,17 @@
 
 use crate::asks::Asks;
 use crate::lines::{self, Asked};
-use crate::{number, Failure, Outcome};
+use crate::runs::{Options, Tally};
+use crate::Outcome;
 use oracle::draw::Draw;
 use sides::answers::{visible, Answer, Form, Refusal, FORMS};
 use sides::original;
 use sides::rules;
-use std::collections::BTreeMap;
-use std::io::{self, stdout, Write};
-use std::time::{Duration, Instant};
-
-/// How many lines are asked about, and which.
-struct Options {
-    long_run: bool,
-    only: Option<u64>,
-    seed: u64,
-}
-
-fn options(words: &[&str]) -> Result<Options, Failure> {
-    let mut options = Options { long_run: false, only: None, seed: 1 };
-    let mut words = words.iter();
-    while let Some(&word) = words.next() {
-        match word {
-            "--long" => options.long_run = true,
-            "--lines" => options.only = Some(number(word, words.next())?),
-            "--seed" => options.seed = number(word, words.next())?,
-            _ => return Err(Failure::Usage(format!("check does not know '{word}'"))),
-        }
-    }
-    if options.long_run && options.only.is_some() {
-        return Err(Failure::Usage("--long and --lines exclude each other".into()));
-    }
-    Ok(options)
-}
+use std::io;
 
 /// Asks about generated lines; whether no answer differs.
 pub fn command(words: &[&str]) -> Outcome {
-    let Options { long_run, only, seed } = options(words)?;
+    let Options { long_run, only, seed } = Options::told("check", "--lines", words)?;
     let (mut run, mut draw) = (Run::new(seed), Draw::new(seed));
     let (drawn, near, wide, crowded, most) = match only {
         Some(count) => (count, count.div_ceil(50), count.div_ceil(50), count.div_ceil(50), 200),
@@ -65,40 +40,29 @@ pub fn command(words: &[&str]) -> Outcome {
         run.line(lines::longest())?;
         run.line(lines::most_cells())?;
     }
-    Ok(run.finish()?)
+    Ok(run.tally.finish()?)
 }
 
 /// A run, and what was asked so far.
 struct Run {
     asks: Asks,
-    lines: BTreeMap<String, u64>,
-    answers: BTreeMap<String, u64>,
-    differences: u64,
-    began: Instant,
-    said: Instant,
+    tally: Tally,
 }
 
 impl Run {
     fn new(seed: u64) -> Self {
-        let now = Instant::now();
-        Self { asks: Asks::new(!seed), lines: BTreeMap::new(), answers: BTreeMap::new(), differences: 0, began: now, said: now }
+        Self { asks: Asks::new(!seed), tally: Tally::new("check", "lines in 3 forms", &["lines", "answers"]) }
     }
 
     /// Asks about a line in every form.
     fn line(&mut self, (kind, line): Asked) -> io::Result<()> {
-        *self.lines.entry(kind.into()).or_default() += 1;
+        self.tally.count("lines", kind);
         for form in FORMS {
             if let Err(fault) = self.ask(form, &line) {
-                self.differences += 1;
-                if self.differences <= 20 {
-                    writeln!(stdout(), "{} {}: {fault}", form.letter(), visible(&line))?;
-                }
+                self.tally.differs(format_args!("{} {}: {fault}", form.letter(), visible(&line)))?;
             }
         }
-        if self.said.elapsed() > Duration::from_secs(5) {
-            self.said = Instant::now();
-            eprintln!("check: {}", self.so_far());
-        }
+        self.tally.progress();
         Ok(())
     }
 
@@ -110,23 +74,8 @@ impl Run {
             Ok(answer) if rules::is_too_wide(answer.record) => "accepted with over 2,048 cells".into(),
             Ok(_) => "accepted".into(),
         };
-        *self.answers.entry(name).or_default() += 1;
+        self.tally.count("answers", name);
         self.asks.line(form, line, &expected)
-    }
-
-    fn so_far(&self) -> String {
-        let lines: u64 = self.lines.values().sum();
-        format!("{lines} lines in {} forms, {} differences, {} s", FORMS.len(), self.differences, self.began.elapsed().as_secs())
-    }
-
-    /// The last words of a run; whether no answer differed.
-    fn finish(&self) -> io::Result<bool> {
-        for (name, counts) in [("lines", &self.lines), ("answers", &self.answers)] {
-            let counts: Vec<String> = counts.iter().map(|(kind, count)| format!("{count} {kind}")).collect();
-            writeln!(stdout(), "{name}: {}", counts.join(", "))?;
-        }
-        writeln!(stdout(), "{}", self.so_far())?;
-        Ok(self.differences == 0)
     }
 }
 

@@ -49,6 +49,15 @@ pub fn drawn(draw: &mut Draw) -> Asked {
 /// A drawn line of a form that ends within a few bytes of the limit of 4,096.
 pub fn near_limit(draw: &mut Draw, form: Form) -> Asked {
     let goal = 4088 + draw.below(14);
+    let line = filled(draw, form, goal, 'a');
+    match draw.below(4) {
+        0 => ("damaged near the limit", draw.damaged(&line)),
+        _ => ("near the limit", line.into_bytes()),
+    }
+}
+
+/// A line of a form of so many bytes, some hundreds at least: drawn parts, and what is lacking filled up by a character.
+pub fn filled(draw: &mut Draw, form: Form, goal: usize, filler: char) -> String {
     let mut line = String::new();
     while line.len() < goal {
         let (between, part) = match form {
@@ -65,11 +74,8 @@ pub fn near_limit(draw: &mut Draw, form: Form) -> Asked {
     if form == Form::Partial && line.len() < goal {
         line.push('/');
     }
-    line += &"a".repeat(goal - line.len());
-    match draw.below(4) {
-        0 => ("damaged near the limit", draw.damaged(&line)),
-        _ => ("near the limit", line.into_bytes()),
-    }
+    let (lacking, each) = (goal - line.len(), filler.len_utf8());
+    line + &"a".repeat(lacking % each) + &filler.to_string().repeat(lacking / each)
 }
 
 /// A line of a few tokens, one of them with up to so many tags.

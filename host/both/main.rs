@@ -3,8 +3,11 @@
 mod asks;
 mod bench;
 mod check;
+mod joins;
 mod lines;
 mod many;
+mod runs;
+mod worked;
 
 use std::io::{self, Write};
 use std::process::ExitCode;
@@ -47,6 +50,7 @@ fn outcome() -> Outcome {
     let words: Vec<&str> = words.iter().map(String::as_str).collect();
     match words[..] {
         ["check", ref words @ ..] => check::command(words),
+        ["joins", ref words @ ..] => joins::command(words),
         ["bench", ref words @ ..] => bench::command(words),
         ["notes", ref words @ ..] => many::notes(words),
         ["duplicates", ref words @ ..] => many::duplicates(words),
