@@ -222,8 +222,8 @@ without=python3 ends 'withhold without python3' 2 'this is missing: python3' bas
 set -- bash "$here/notes.sh"
 ends 'the desk without a word' 2 'usage: bash notes.sh VERB' "$@"
 ends 'the help of the desk' 0 'usage: bash notes.sh VERB' "$@" --help
-ends 'the desk with an unknown verb' 2 "notes.sh: there is no 'twins'; it does check compare convert duplicates keys withhold" "$@" twins
-for verb in check compare convert duplicates keys withhold; do
+ends 'the desk with an unknown verb' 2 "notes.sh: there is no 'twins'; it does check compare convert duplicates join keys withhold" "$@" twins
+for verb in check compare convert duplicates join keys withhold; do
     without='rt rustc' ends "the help of $verb" 0 "usage: bash notes.sh $verb" "$@" "$verb" --help
 done
 rm -rf "$here/target"

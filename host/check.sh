@@ -62,6 +62,7 @@ if check 'the port and the original link into one program' "$here/link.sh"; then
     shown 'notes.sh does what its pages say, answers as a second reading, reports a wrong port, and says what it cannot do' python3 "$here/notes.py"
     shown "README.md's examples of notes.sh" python3 "$here/../checks/readme.py" notes
 fi
+shown 'notes.sh join joins as a second reading does, and says what it cannot join' python3 "$here/join.py"
 shown 'the withheld copies and the keys are those of a second reading' "$here/withhold.sh"
 shown 'respell makes interrupted calls again, and goes on after short ones' "$here/interrupted.sh"
 check 'the examples in C and in Rust link the port and print what they should' "$here/example.sh"

@@ -41,6 +41,7 @@ HEADINGS = {
     "compare": ["file", "line", "item", "part", "original", "port", "text"],
     "convert": ["file", "line", "number", "place", "kept", "note"],
     "duplicates": ["group", "file", "line", "form", "note"],
+    "join": ["line", "file", "number", "place", "note"],
     "keys": ["key", "file", "line"],
     "withhold": ["file", "line", "number", "place", "note"],
 }
@@ -50,6 +51,7 @@ CALLS = {
     "compare": ["compare", "partial", "-"],
     "convert": ["convert", "partial", "tokenized"],
     "duplicates": ["duplicates", "partial", "-"],
+    "join": ["join", "partial", "word", "-"],
     "keys": ["keys", "partial", "-"],
     "withhold": ["withhold", "partial", "0", "1"],
 }

@@ -7,6 +7,7 @@ use native.Mathlib.Omega.{arith}
 use borrow.Author.Tests.{lt-ltb}
 use lib.ListN.{length, length-append}
 use Rattle.laws.specs.If.{if-true}
+use Rattle.laws.proofs.Facts.{untrue}
 use Rattle.utf8.specs.Utf8.{scalars, size}
 use Rattle.utf8.proofs.Codec.{size-append}
 use Rattle.sentence.specs.Sentence.{Mark, unknown, Sentence, text, rows, tagBytes}
@@ -21,6 +22,7 @@ use Rattle.sentence.proofs.Demand3.{fits-read}
 use Rattle.sentence.proofs.Keys.{note-joined}
 use Rattle.sentence.proofs.Joined as definitions
 use Rattle.sentence.proofs.Lone.{lone-dropped, plain-end, raw-lone}
+use Rattle.sentence.proofs.Apart.{lone-apart}
 use Rattle.sentence.proofs.Accepted.{accepted, written-lone}
 use Rattle.sheet.specs.declared.Record.{Record}
 use Rattle.sheet.specs.Layout.{Buffers, recordOf, Holds, spell, Sheet}
@@ -115,6 +117,8 @@ pub joined-lines : JoinedLines
 joined-lines = record {
   written-lines = λ f an m j r q d c x y p o u v le. written-lines f an m j x y p o u v le;
   lines = definitions.joins;
+  exactly = λ f an m j x y s t p q le.
+      (λ e. untrue (endsLone f x) (λ l. lone-apart f an m j x y s t p q l e), λ h. definitions.joins f m j x y s t p q h le);
   raw-lines = raw-lines;
   many-lines = definitions.joins-all;
   too-long = λ f m x y h. too-long f (glued f m x y) h;

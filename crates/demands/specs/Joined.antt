@@ -1,6 +1,7 @@
 -- Joining lines over the public functions: what two lines with a boundary's sign between them read as, and what reading them leaves.
 use Prim.Native.Nat.{ℕ, _+_, _-_, _*_, _≤_, _<_, max}
 use mathlib.Core.Path.{_≡_}
+use mathlib.Core.Logic.{_↔_}
 use mathlib.Core.Bool.{true, false}
 use mathlib.Core.List.{List, [], _∷_, _++_}
 use lib.ListN.{length, getD}
@@ -49,7 +50,10 @@ pub record JoinedLines : Type 0 where
   -- so do any two lines that are accepted, of which the first does not end behind a lone backslash
   pub lines : (f : Form) (m : Mark) → JoinsBy f m → (x y : List ℕ) (s t : Sentence) → read f x ≡ sentence s → read f y ≡ sentence t
       → endsLone f x ≡ false → length (glued f m x y) ≤ 4096 → read f (glued f m x y) ≡ sentence (join m s t)
-  -- no raw line does: two of them join with nothing between
+  -- and of annotated ones no others: behind a lone backslash what stands between them is no boundary
+  pub exactly : (f : Form) → Annotated f → (m : Mark) → JoinsBy f m → (x y : List ℕ) (s t : Sentence) → read f x ≡ sentence s → read f y ≡ sentence t
+      → length (glued f m x y) ≤ 4096 → (read f (glued f m x y) ≡ sentence (join m s t)) ↔ (endsLone f x ≡ false)
+  -- no raw line ends so: two of them join with nothing between
   pub raw-lines : (x y : List ℕ) (s t : Sentence) → read raw x ≡ sentence s → read raw y ≡ sentence t → length x + length y ≤ 4096
       → read raw (x ++ y) ≡ sentence (join unknown s t)
   -- and any number of lines, with that boundary between each two

@@ -79,11 +79,11 @@ pub glued-associates : (f : Form) (m k : Mark) (x y z : List ℕ) → glued f m 
 glued-associates f m k x y z = simp append-assoc refl
 
 -- ---- what was gathered of a line, with cells of n columns joined behind it
-attach : Mark → Cells → Rest → Rest
+unfoldable pub attach : Mark → Cells → Rest → Rest
 attach m u over = next m u
 attach m u (next k s) = next k (joinCells m s u)
 
-joined : Mark → ℕ → Cells → Parsed → Parsed
+unfoldable pub joined : Mark → ℕ → Cells → Parsed → Parsed
 joined m k u (parsed t ts n r) = parsed t ts (max n k) (attach m u r)
 
 before-joined : (m : Mark) (u : Cells) (c : ℕ) (ts : List Tag) (r : Rest) → before c ts (attach m u r) ≡ joinCells m (before c ts r) u
@@ -91,7 +91,7 @@ unfolding before attach joinCells
 before-joined m u c ts over = refl
 before-joined m u c ts (next k s) = refl
 
-add-joined : (m : Mark) (k : ℕ) (u : Cells) (a : Act) (p : Parsed) → add a (joined m k u p) ≡ joined m k u (add a p)
+pub add-joined : (m : Mark) (k : ℕ) (u : Cells) (a : Act) (p : Parsed) → add a (joined m k u p) ≡ joined m k u (add a p)
 unfolding add joined attach
 add-joined m k u skip (parsed t ts n r) = refl
 add-joined m k u (ofTag c) (parsed t ts n r) = refl
@@ -101,7 +101,7 @@ add-joined m k u (letter j c) (parsed t ts n r) =
     rw (before-joined m u c ts r, e)
 
 -- ---- one step of a run that is not refused
-data Goes (f : Form) (σ : State) (c : ℕ) (x : List ℕ) (p : Parsed) : Type 0 where
+pub data Goes (f : Form) (σ : State) (c : ℕ) (x : List ℕ) (p : Parsed) : Type 0 where
   goes : (σ′ : State) (a : Act) (q : Parsed) → advance f σ c ≡ go σ′ a → reads f σ′ x ≡ got q → p ≡ add a q → Goes f σ c x p
 
 adds-got : (a : Act) (g : Got) (p : Parsed) → adds a g ≡ got p → (q : Parsed) × (g ≡ got q) × (p ≡ add a q)
@@ -109,7 +109,7 @@ unfolding adds
 adds-got a (got q) p e = (q, refl, cc)
 adds-got a (bad n l) p e = absurd (let z : _≡_ {A = ℕ} 0 1 = cc in omega arith)
 
-step-goes : (f : Form) (σ : State) (c : ℕ) (x : List ℕ) (p : Parsed) → reads f σ (c ∷ x) ≡ got p → Goes f σ c x p
+pub step-goes : (f : Form) (σ : State) (c : ℕ) (x : List ℕ) (p : Parsed) → reads f σ (c ∷ x) ≡ got p → Goes f σ c x p
 unfolding run follow gathered
 step-goes f σ c x p e = on (advance f σ c) refl e
   where
@@ -331,13 +331,13 @@ found f x s e =
 
 -- ---- the law
 -- what stands between lines is characters of one byte each
-glue-scalars : (f : Form) (m : Mark) → Scalars (glue f m)
+pub glue-scalars : (f : Form) (m : Mark) → Scalars (glue f m)
 unfolding glue scalar
 glue-scalars raw m = tt
 glue-scalars tokenized m = (refl, tt)
 glue-scalars partial m = (sign-scalar m, tt)
 
-glue-encodes : (f : Form) (m : Mark) → encodes (glue f m) ≡ glue f m
+pub glue-encodes : (f : Form) (m : Mark) → encodes (glue f m) ≡ glue f m
 unfolding glue sign encodes encode if_then_else_
 glue-encodes raw m = refl
 glue-encodes tokenized m = refl

@@ -10,3 +10,4 @@ pub mod Keys
 pub mod Joined
 pub mod Lone
 pub mod Accepted
+pub mod Apart

@@ -61,9 +61,9 @@ step-awaits f σ k c = on (step f σ k c) (step-shown f σ k c)
   where
     on : (s : Step) → Shown σ k c s → Awaits σ k s
     on s (a-letter m) = tt
-    on s of-tag = tt
-    on s (a-mark m e) = tt
-    on s a-tag = tt
+    on s (of-tag o) = tt
+    on s (a-mark m) = tt
+    on s (a-tag o) = tt
     on s (a-back p e i) = (e, i, refl)
     on s (a-stop n) = tt
 

@@ -56,47 +56,57 @@ abbrev pub StepOf : ℕ → Step → Type 0
 StepOf c (go σ a) = ActOf c a
 StepOf c (stop e) = Unit {0}
 
+-- where a state stands
+abbrev pub placeOf : State → Place
+placeOf (at p) = p
+placeOf (escaped p) = p
+
+-- a place behind a character or in its tags
+pub data Near : Place → Type 0 where
+  char : Near behind
+  tag : Near inTag
+
 -- what a step can be: text, a character of a tag, a boundary, an open tag, a backslash, or a refusal
 pub data Shown (σ : State) (k : Kind) (c : ℕ) : Step → Type 0 where
   a-letter : (m : Mark) → Shown σ k c (go (at behind) (letter m c))
-  of-tag : Shown σ k c (go (at inTag) (ofTag c))
-  a-mark : (m : Mark) → k ≡ mark m → Shown σ k c (go (at (gap m)) skip)
-  a-tag : Shown σ k c (go (at inTag) opens)
+  of-tag : placeOf σ ≡ inTag → Shown σ k c (go (at inTag) (ofTag c))
+  a-mark : (m : Mark) → Shown σ k c (go (at (gap m)) skip)
+  a-tag : Near (placeOf σ) → Shown σ k c (go (at inTag) opens)
   a-back : (p : Place) → k ≡ back → σ ≡ at p → Shown σ k c (go (escaped p) skip)
   a-stop : (e : ℕ) → Shown σ k c (stop e)
 
-ordinary-shown : (σ : State) (k : Kind) (f : Form) (p : Place) (c : ℕ) → Shown σ k c (ordinary f p c)
+ordinary-shown : (σ : State) (k : Kind) (f : Form) (p : Place) (c : ℕ) → placeOf σ ≡ p → Shown σ k c (ordinary f p c)
 unfolding ordinary
-ordinary-shown σ k f start c = a-letter none
-ordinary-shown σ k f (gap m) c = a-letter m
-ordinary-shown σ k f inTag c = of-tag
-ordinary-shown σ k raw behind c = a-letter unknown
-ordinary-shown σ k tokenized behind c = a-letter none
-ordinary-shown σ k partial behind c = a-stop 9
+ordinary-shown σ k f start c i = a-letter none
+ordinary-shown σ k f (gap m) c i = a-letter m
+ordinary-shown σ k f inTag c i = of-tag i
+ordinary-shown σ k raw behind c i = a-letter unknown
+ordinary-shown σ k tokenized behind c i = a-letter none
+ordinary-shown σ k partial behind c i = a-stop 9
 
-inside-shown : (f : Form) (p : Place) (k : Kind) (c : ℕ) → Shown (at p) k c (inside f p k c)
+inside-shown : (f : Form) (p : Place) → Near p → (k : Kind) (c : ℕ) → Shown (at p) k c (inside f p k c)
 unfolding inside
-inside-shown f p (mark m) c = a-mark m refl
-inside-shown f p slash c = a-tag
-inside-shown f p back c = a-back p refl refl
-inside-shown f p plain c = ordinary-shown (at p) plain f p c
+inside-shown f p o (mark m) c = a-mark m
+inside-shown f p o slash c = a-tag o
+inside-shown f p o back c = a-back p refl refl
+inside-shown f p o plain c = ordinary-shown (at p) plain f p c refl
 
 opening-shown : (e : ℕ) (p : Place) (k : Kind) (c : ℕ) → Shown (at p) k c (opening e p k c)
 unfolding opening
 opening-shown e p (mark m) c = a-stop e
 opening-shown e p slash c = a-stop 7
 opening-shown e p back c = a-back p refl refl
-opening-shown e p plain c = ordinary-shown (at p) plain tokenized p c
+opening-shown e p plain c = ordinary-shown (at p) plain tokenized p c refl
 
 pub step-shown : (f : Form) (σ : State) (k : Kind) (c : ℕ) → Shown σ k c (step f σ k c)
 unfolding step
-step-shown f (escaped p) k c = ordinary-shown (escaped p) k f p c
-step-shown f (at behind) k c = inside-shown f behind k c
-step-shown f (at inTag) k c = inside-shown f inTag k c
-step-shown raw (at start) k c = ordinary-shown (at start) k raw start c
-step-shown raw (at (gap m)) k c = ordinary-shown (at (gap m)) k raw (gap m) c
-step-shown partial (at start) k c = ordinary-shown (at start) k partial start c
-step-shown partial (at (gap m)) k c = ordinary-shown (at (gap m)) k partial (gap m) c
+step-shown f (escaped p) k c = ordinary-shown (escaped p) k f p c refl
+step-shown f (at behind) k c = inside-shown f behind char k c
+step-shown f (at inTag) k c = inside-shown f inTag tag k c
+step-shown raw (at start) k c = ordinary-shown (at start) k raw start c refl
+step-shown raw (at (gap m)) k c = ordinary-shown (at (gap m)) k raw (gap m) c refl
+step-shown partial (at start) k c = ordinary-shown (at start) k partial start c refl
+step-shown partial (at (gap m)) k c = ordinary-shown (at (gap m)) k partial (gap m) c refl
 step-shown tokenized (at start) k c = opening-shown 5 start k c
 step-shown tokenized (at (gap m)) k c = opening-shown 6 (gap m) k c
 
@@ -105,9 +115,9 @@ step-of f σ k c = on (step f σ k c) (step-shown f σ k c)
   where
     on : (s : Step) → Shown σ k c s → StepOf c s
     on s (a-letter m) = refl
-    on s of-tag = refl
-    on s (a-mark m e) = tt
-    on s a-tag = tt
+    on s (of-tag o) = refl
+    on s (a-mark m) = tt
+    on s (a-tag o) = tt
     on s (a-back p e i) = tt
     on s (a-stop n) = tt
 
@@ -296,10 +306,6 @@ Shaped (gap none) ts r = Unit {0}
 Shaped (gap word) ts r = Ended r
 Shaped (gap unknown) ts r = Unit {0}
 
-abbrev pub placeOf : State → Place
-placeOf (at p) = p
-placeOf (escaped p) = p
-
 abbrev ShapedParsed : Place → Parsed → Type 0
 ShapedParsed p (parsed t ts n r) = Shaped p ts r
 
@@ -340,11 +346,6 @@ ordinary-shapes (gap word) c = text-shapes (gap word) word c (λ s w. w)
 ordinary-shapes (gap unknown) c = text-shapes (gap unknown) unknown c (λ s w. tt)
 ordinary-shapes behind c = text-shapes behind none c (λ s w. (refl, w))
 ordinary-shapes inTag c = tag-shapes c
-
--- a place behind a character or in its tags
-data Near : Place → Type 0 where
-  char : Near behind
-  tag : Near inTag
 
 near-shapes : {p : Place} → Near p → (ts : List Tag) (r : Rest) → Ended r → Shaped p ts r
 near-shapes char ts r h = ended-texted ts r h
