@@ -67,8 +67,8 @@ def main(words):
         subprocess.run([both, "notes", str(count)], stdout=out, check=True)
     print(f"{count:,} tokenized notes, {os.path.getsize(file) / 1e6:,.0f} MB; {platform.machine()}, {os.cpu_count()} processors.\n")
     print("| job | seconds | of processors | MB |\n|---|---|---|---|")
-    for verb in (["check", "T", file], ["convert", "T", "P", file], ["keys", "T", file]):
-        row(f"`notes.sh {' '.join(verb[:-1])}`", *measured([[notes, *verb]], "out", 0)[:3])
+    for verb in (["check", "T", file], ["convert", "T", "P", file], ["keys", "T", file], ["join", "T", file, file]):
+        row(f"`notes.sh {' '.join(word for word in verb if word != file)}`", *measured([[notes, *verb]], "out", 0)[:3])
     *figures, said = measured([[notes, "duplicates", "T", file]], "found", 1)
     row("`notes.sh duplicates T`", *figures)
     *figures, groups = measured([[notes, "keys", "T", file], SORT, GROUPS], "grouped", 0)

@@ -14,7 +14,6 @@ import os
 import pty
 import random
 import re
-import select
 import signal
 import subprocess
 import sys
@@ -25,26 +24,17 @@ from functools import cache
 from itertools import product
 from unicodedata import category, east_asian_width
 
-HERE = os.path.dirname(os.path.abspath(__file__))
-TOP = os.path.dirname(HERE)
-SCRIPT = ["bash", os.path.join(TOP, "notes.sh")]
-PAGES = os.path.join(HERE, "notes", "help")
+sys.dont_write_bytecode = True
+from outcomes import (  # noqa: E402
+    BROKEN, CR, EMPTY_LINES, FOLDER, FULL, GONE, HEADINGS, HERE, LIMIT, MARK, ROWS, SCRIPT, TOP, beside, by_shell, can_run, count_answers, document, expect,
+    file, give, heading, line_of, main, next_line, not_understood, outcome, path, reading, run, run_examples, said, sentence, start, table, with_lf,
+    without_more)
+
+PAGES = "host/notes/help"
 SAMPLES = os.path.join(HERE, "samples")
 PROGRAMS = os.path.join(TOP, "target", "host", "x86")
-sys.path.insert(0, os.path.join(TOP, "crates", "test_hiding"))
-sys.dont_write_bytecode = True
-LIMIT = 120
 FORMS = ["raw", "tokenized", "partial"]
 PAIRS = [(reader, writer) for reader in FORMS for writer in FORMS[1:]]
-HEADINGS = {
-    "check": ["file", "line", "number", "place", "refused", "note"],
-    "compare": ["file", "line", "item", "part", "original", "port", "text"],
-    "convert": ["file", "line", "number", "place", "kept", "note"],
-    "duplicates": ["group", "file", "line", "form", "note"],
-    "join": ["line", "file", "number", "place", "note"],
-    "keys": ["key", "file", "line"],
-    "withhold": ["file", "line", "number", "place", "note"],
-}
 # Each verb on the partial notes of standard input.
 CALLS = {
     "check": ["check", "partial", "-"],
@@ -70,7 +60,7 @@ LINES = [
     (rb"a/\\|\|b", rb"a/\\\\|\\/|b/"),
     (b"a/x\ty", rb"a/x\ty"),
 ]
-ASKED = b"".join(line + b"\n" for line, _ in LINES)
+ASKED = with_lf(line for line, _ in LINES)
 MANY = 5000
 # How long lines are where a reader's limit, what is kept of a line, or what is read at once comes to its end.
 LENGTHS = [part + n for part in (4096, 8192, 65536, 4096 + 65536, 8192 + 65536) for n in range(-2, 3)]
@@ -189,71 +179,14 @@ BOTH = [
     ("bench --laps", "bench does not know '--laps'", os.devnull),
     ("bench --rounds 1", "cannot write to standard output: ", "/dev/full"),
 ]
-ESCAPES = {b"\\\\": b"\\", b"\\t": b"\t", b"\\n": b"\n", b"\\r": b"\r"}
-FULL = b"notes.sh: standard output cannot be written: No space left on device (os error 28)\n"
-BROKEN = b"notes.sh: standard output cannot be written: Broken pipe (os error 32)\n"
-CR = "every line ends in CR, which is a character of each note here; to take it out of a file: sed 's/\\r$//' FILE"
-MARK = "it begins with a byte order mark, which is a character of its first note here; to take it out: sed '1s/^\\xEF\\xBB\\xBF//' FILE"
 LOST = "lost tokens with an unknown boundary, or tags inside a token, which the tokenized form does not have"
-# What `convert` and `withhold` say of the notes that are refused, as text and with --tsv.
-EMPTY_LINES = "each of them is an empty line of the output"
-ROWS = "their rows have the number and the place"
-# What is said of a file that is not there.
-GONE = "is not there: name a file of notes, or - for standard input"
 # The farthest place that a refusal holds.
 FARTHEST = 2**32 - 1
-faults = []
-count = answers = 0
-folder = emulator = None
-
-
-def expect(name, got, wanted):
-    """One outcome: what was printed, what was said, the status."""
-    global count
-    count += 1
-    if got != wanted:
-        faults.append(f"{name}: {shown(got)}, and wanted was {shown(wanted)}")
-
-
-def shown(outcome):
-    """An outcome, to be read by a person; of long bytes the beginning and how many they are."""
-    if isinstance(outcome, (tuple, list)):
-        return "(" + ", ".join(map(shown, outcome[:20])) + ")"
-    if isinstance(outcome, (bytes, str)) and len(outcome) > 400:
-        return f"{outcome[:200]!r} and so on, {len(outcome)} in all"
-    return repr(outcome)
-
-
-def said(*lines):
-    """Lines that notes.sh says of itself."""
-    return "".join(f"notes.sh: {line}\n" for line in lines).encode()
 
 
 def counted(number, noun):
     """A number with its noun."""
     return f"{number:,} {noun}{'' if number == 1 else 's'}"
-
-
-def start(words, **more):
-    """A run that was begun, in the folder of this script's own files."""
-    more = {"stdin": subprocess.DEVNULL, "stdout": subprocess.PIPE, "stderr": subprocess.PIPE, "cwd": folder, **more}
-    return subprocess.Popen([*SCRIPT, *words], **more)
-
-
-def outcome(process, limit=LIMIT):
-    """What a run that was begun printed and said, and its status."""
-    try:
-        out, err = process.communicate(timeout=limit)
-    except subprocess.TimeoutExpired:
-        process.kill()
-        raise
-    return out, err, process.returncode
-
-
-def run(words, data=b"", command=SCRIPT, **more):
-    """A run on input from a pipe."""
-    done = subprocess.run([*command, *words], **{"input": data, "capture_output": True, "timeout": LIMIT, "cwd": folder, **more})
-    return done.stdout, done.stderr, done.returncode
 
 
 def whole(words, data):
@@ -264,46 +197,17 @@ def whole(words, data):
         return outcome(start(words, stdin=file))
 
 
-def by_shell(words, data=b""):
-    """A run with what only a shell makes; notes.sh is called in it as notes."""
-    return run(["-c", f'notes() {{ bash "$0" "$@"; }}; {words}', SCRIPT[1]], data, ["bash"])
+@cache
+def emulator():
+    """What runs a program of host/link.sh here."""
+    asked = ["bash", "-c", '. "$0" && find_run && printf "%s\\n" "${run[@]}"', os.path.join(HERE, "tools.sh")]
+    printed = subprocess.run(asked, stdin=subprocess.DEVNULL, capture_output=True, check=True, text=True).stdout
+    return [word for word in printed.split("\n") if word]
 
 
 def program(name, words, data=b"", **more):
     """A run of a program of host/link.sh."""
-    return run(words, data, [*emulator, os.path.join(PROGRAMS, name)], **more)
-
-
-def file(name, data):
-    """Writes a file into the folder: its name."""
-    with open(os.path.join(os.fsencode(folder), os.fsencode(name)), "wb") as written:
-        written.write(data)
-    return name
-
-
-def joined(lines):
-    """Lines, each with its LF."""
-    return b"".join(line + b"\n" for line in lines)
-
-
-def plain(cell):
-    """A cell of a table with its escapes undone; one that is none is told."""
-    return re.sub(rb"(?s)\\.?", lambda escape: ESCAPES.get(escape[0], b"<no escape: " + escape[0] + b">"), cell)
-
-
-def escaped(cell):
-    """A cell as a table has it."""
-    return re.sub(rb"[\\\t\n\r]", lambda byte: next(escape for escape, plain in ESCAPES.items() if plain == byte[0]), cell)
-
-
-def table(verb, out):
-    """The rows of a table under their heading, escapes undone; whoever finds no table there finds no rows."""
-    lines = out.split(b"\n")
-    heading = "\t".join(HEADINGS[verb]).encode()
-    rows = [line.split(b"\t") for line in lines[1:-1]]
-    odd = [row for row in rows if len(row) != len(HEADINGS[verb]) or any(escaped(plain(cell)) != cell for cell in row)]
-    expect(f"the table of {verb}: its heading, its end, a row that is none", (lines[0], lines[-1], odd[:1]), (heading, b"", []))
-    return [[plain(cell) for cell in row] for row in rows if len(row) == len(HEADINGS[verb])]
+    return run(words, data, [*emulator(), os.path.join(PROGRAMS, name)], **more)
 
 
 def columns(text):
@@ -314,25 +218,12 @@ def columns(text):
 # The help pages and the words
 
 
-def examples(page):
-    """The commands of a page, each with what it prints."""
-    command, lines = None, []
-    for line in [*page.split("\n"), "the end"]:
-        if command and (line == "" or line.startswith("    ")) and not line.startswith("    $ "):
-            lines.append(line[4:])
-            continue
-        if command:
-            yield command, "\n".join([*lines, ""]).rstrip("\n") + "\n" * any(lines)
-        command, lines = line[6:] if line.startswith("    $ ") else None, []
-
-
 def pages():
     """What the pages say, and how they are asked for."""
-    names = sorted(name.removesuffix(".txt") for name in os.listdir(PAGES))
+    names = sorted(name.removesuffix(".txt") for name in os.listdir(os.path.join(TOP, PAGES)))
     expect("the pages", names, sorted([*HEADINGS, "notes"]))
     for name in names:
-        with open(os.path.join(PAGES, name + ".txt"), encoding="utf-8") as opened:
-            page = opened.read()
+        page = document(f"{PAGES}/{name}.txt")
         verb = [] if name == "notes" else [name]
         expect(f"the page of {name}", page.split(" [")[0], f"usage: bash notes.sh {name if verb else 'VERB'}")
         for word in ("--help", "-h"):
@@ -343,24 +234,13 @@ def pages():
         else:
             expect("no word", run([]), (b"", page.encode(), 2))
         run_examples(f"the page of {name}", page)
-    with open(os.path.join(TOP, "docs", "DUPLICATES.md"), encoding="utf-8") as opened:
-        run_examples("docs/DUPLICATES.md", opened.read())
-
-
-def run_examples(name, page):
-    """The commands of a page, run in the project's folder."""
-    commands = list(examples(page))
-    expect(f"{name} has an example", bool(commands), True)
-    for command, printed in commands:
-        done = subprocess.run(["bash", "-c", command], cwd=TOP, stdin=subprocess.DEVNULL, stdout=subprocess.PIPE, stderr=subprocess.STDOUT, timeout=LIMIT)
-        expect(f"{name}: {command}", done.stdout.decode(errors="replace"), printed)
+    run_examples("docs/DUPLICATES.md", document("docs/DUPLICATES.md"))
 
 
 def words():
     """Words that are not understood."""
     for given, told in UNKNOWN_WORDS:
-        wanted = said(told, f"'bash notes.sh {given[0]} --help' says how it is used")
-        expect(f"the words {given}", run(given), (b"", wanted, 2))
+        not_understood(given, told)
     for verb in ("jump", "", "notes", "-x", "--", "--tsv", "./keys", "keys "):
         wanted = b"", said(f"there is no '{verb}'; it does {' '.join(HEADINGS)}", "'bash notes.sh --help' says how it is used"), 2
         expect(f"the verb '{verb}'", run([verb, "raw", "-"]), wanted)
@@ -378,8 +258,7 @@ def words():
 @cache
 def meanings():
     """What README.md says of the refusals 1 to 10, as notes.sh is to say it: words and advice by number."""
-    with open(os.path.join(TOP, "README.md"), encoding="utf-8") as opened:
-        part = opened.read().partition("\n## What a refusal means\n")[2].partition("\n## ")[0]
+    part = document("README.md").partition("\n## What a refusal means\n")[2].partition("\n## ")[0]
     told = {}
     for line in re.findall(r"(?m)^\| \d+ \|.*$", part):
         number, refused, _, advice = (cell.strip().replace("\\|", "|").replace("`", "") for cell in re.split(r"(?<!\\)\|", line)[1:-1])
@@ -412,7 +291,7 @@ def refusals():
     text, rows, named = "", [], []
     for form in FORMS:
         of_form = [line for line in lines if line[0] == form]
-        named += [form, file(form[0], joined(note for _, line, *_ in of_form for note in (b"a", line)))]
+        named += [form, file(form[0], with_lf(note for _, line, *_ in of_form for note in (b"a", line)))]
         for at, (_, line, number, place, visible, before) in enumerate(of_form, 1):
             text += f"{refusal(f'{form[0]}:{2 * at}', number, place)}\n    {visible}\n    {' ' * columns(before)}^\n"
             rows.append([form[0].encode(), b"%d" % (2 * at), b"%d" % number, b"%d" % place, meanings()[number][0].encode(), line])
@@ -443,7 +322,7 @@ def long_lines():
     texts = [numbers, wide, "aa" + wide, numbers[:300] + "  " + numbers[300:600], wide[:200] + " " + wide[200:900], numbers[:199] + " ", " " + wide[:900]]
     texts.append("a\t" * 20 + "  b")
     asked = [text.encode() for text in texts]
-    out, _, status = run(["check", "T", "-"], joined(asked))
+    out, _, status = run(["check", "T", "-"], with_lf(asked))
     got = out.decode(errors="replace").split("\n")
     expect("wide lines: the status, and how many lines tell of them", (status, got.index("") if "" in got else None), (1, 3 * len(texts)))
     for at, (text, line) in enumerate(zip(texts, asked)):
@@ -451,7 +330,7 @@ def long_lines():
         told, part, caret = (got[3 * at:3 * at + 3] + [""] * 3)[:3]
         is_shown = is_window(seen(text), len(seen(line[:place].decode(errors="ignore"))), part, caret)
         expect(f"the wide line {at + 1}, {part!r}, {caret!r}", (told, is_shown), (refusal(f"-:{at + 1}", number, place), True))
-    rows = table("check", run(["check", "--tsv", "T", "-"], joined(asked))[0])
+    rows = table("check", run(["check", "--tsv", "T", "-"], with_lf(asked))[0])
     expect("wide lines in a table", [row[-1] for row in rows], [cut(line) for line in asked])
 
 
@@ -472,12 +351,6 @@ def is_window(text, at, part, caret):
 
 
 # The answers beside a second reading
-
-
-def reading():
-    """The second reading."""
-    import reading
-    return reading
 
 
 @cache
@@ -511,12 +384,6 @@ def limit_lines():
     yield b"b" * 2047 + b"/" * 2048 + b"x"
 
 
-@cache
-def sentence(form, line):
-    """The second reading of a line: its sentence, or what refuses it."""
-    return reading().read_line(line, form[0].upper())
-
-
 def of_sentence(form, line, answer):
     """What is answered of a line: of its sentence, or what refuses it."""
     told = sentence(form, line)
@@ -526,17 +393,6 @@ def of_sentence(form, line, answer):
 def key(form, line):
     """The key of a line, or what refuses it."""
     return of_sentence(form, line, lambda told: reading().key_of(told, len(line) * 4096))
-
-
-def beside(name, asked, got, wanted):
-    """Answers beside those of the second reading; the first that differs is told with its line."""
-    global answers
-    answers += len(wanted)
-    for line, told, right in zip(asked, got, wanted):
-        if told != right:
-            faults.append(f"{name}: {shown(line)}: the tool has {shown(told)}, the second reading {shown(right)}")
-            break
-    expect(f"{name}: how many answers there are", len(got), len(wanted))
 
 
 def accepted(wanted):
@@ -565,12 +421,11 @@ def compared_keys():
     for form in FORMS:
         name, wanted = f"keys of {form} notes", [key(form, line) for line in asked]
         out, err, status = whole(["keys", form, "-"], b"\n".join(asked))
-        heading = "\t".join(HEADINGS["keys"]).encode() + b"\n"
-        rows = table("keys", heading + out)
+        rows = table("keys", heading("keys") + out)
         beside(name, [asked[at - 1] for at in accepted(wanted)], rows, [[wanted[at - 1], b"-", b"%d" % at] for at in accepted(wanted)])
         beside(f"{name}, refusals", [asked[at - 1] for at, _, _ in refused(wanted)], told_refusals(err), refused(wanted))
         expect(f"{name}: the end", (err.endswith(b"\n" + said(f"{of_all(wanted)}: they have no key")), status), (True, 1))
-        expect(f"{name}, with their heading", run(["keys", "--tsv", form, "-"], b"\n".join(asked)), (heading + out, err, 1))
+        expect(f"{name}, with their heading", run(["keys", "--tsv", form, "-"], b"\n".join(asked)), (heading("keys") + out, err, 1))
 
 
 def compared_checks():
@@ -611,7 +466,7 @@ def compared_copies():
     rng = random.Random(5)
     for form in FORMS:
         ranges = [drawn_range(rng, form, line) for line in asked]
-        file("ranges", joined(b"%d %d" % given for given in ranges))
+        file("ranges", with_lf(b"%d %d" % given for given in ranges))
         wanted = [copy(form, line, start, end) for line, (start, end) in zip(asked, ranges)]
         compared_notes(["withhold", "--ranges", "ranges", form], asked, wanted)
 
@@ -642,14 +497,12 @@ def told_in(row):
 
 def compared_conversions():
     """The written lines of all pairs of forms, and whether they are kept: whether they read back, in a call of their own, to the same note."""
-    reading()
-    from reference import WRITERS
     asked, tables = lines_asked(), {}
     for reader, writer in PAIRS:
-        wanted = [of_sentence(reader, line, lambda sentence: WRITERS[writer[0].upper()](sentence).encode()) for line in asked]
+        wanted = [of_sentence(reader, line, lambda sentence: line_of(writer, sentence)) for line in asked]
         tables[reader, writer] = compared_notes(["convert", reader, writer], asked, wanted)
     for (reader, writer), rows in tables.items():
-        again = table("convert", run(["convert", "--tsv", writer, "partial"], joined(row[5] for row in rows))[0])
+        again = table("convert", run(["convert", "--tsv", writer, "partial"], with_lf(row[5] for row in rows))[0])
         wanted = [kept(*each) for each in zip(rows, again, tables[reader, "partial"])]
         beside(f"convert {reader} {writer}: what is kept", asked, [row[4] for row in rows], wanted)
 
@@ -681,7 +534,7 @@ def lost():
     told = said("1 written note is over 4,096 bytes long, and no reader takes it; the first is -:1")
     expect("one long note", run(["convert", "P", "P"], long)[1:], (told, 0))
     told = said("2 written notes are over 4,096 bytes long, and no reader takes them; the first is -:1")
-    expect("two long notes", run(["convert", "P", "P"], joined([long, long]))[1:], (told, 0))
+    expect("two long notes", run(["convert", "P", "P"], with_lf([long, long]))[1:], (told, 0))
 
 
 # Duplicates
@@ -729,13 +582,13 @@ def groups(files, between):
 def duplicates():
     """The groups of drawn files: through files, standard input and pipes, and where all keys have one hash."""
     files = drawn_files(random.Random(6))
-    names = [word for form, lines in files.items() for word in (form, file(f"notes of {form}", joined(lines)))]
+    names = [word for form, lines in files.items() for word in (form, file(f"notes of {form}", with_lf(lines)))]
     for options in ([], ["--between"]):
         wanted, text = wanted_groups(files, options)
         tables = {
             "files": run(["duplicates", "--tsv", *options, *names]),
-            "standard input": run(["duplicates", *options, *names[:3], "-", *names[4:], "--tsv"], joined(files["tokenized"])),
-            "pipes": by_shell(f"notes duplicates --tsv {' '.join(options)} R <(cat '{names[1]}') T - P <(cat '{names[5]}')", joined(files["tokenized"])),
+            "standard input": run(["duplicates", *options, *names[:3], "-", *names[4:], "--tsv"], with_lf(files["tokenized"])),
+            "pipes": by_shell(f"notes duplicates --tsv {' '.join(options)} R <(cat '{names[1]}') T - P <(cat '{names[5]}')", with_lf(files["tokenized"])),
         }
         for name, (out, err, status) in tables.items():
             expect(f"duplicates {options}, {name}", (by_form(table("duplicates", out)), err[-len(wanted[1]):], status), wanted)
@@ -750,10 +603,9 @@ def duplicates():
 
 def wanted_groups(files, options):
     """What is to be found in files: the rows with the last lines that are said and the status, and the text."""
-    global answers
     found, notes = groups(files, bool(options)), sum(map(len, files.values()))
     refused = sum(isinstance(key(form, line), tuple) for form, lines in files.items() for line in lines)
-    answers += notes
+    count_answers(notes)
     place = "in more than one file" if options else "more than once"
     told = said(f"{refused} of {notes} notes refused: they are not compared; the first 10 are above, 'bash notes.sh check' lists them all",
                 f"{len(found)} notes stand {place}, on {sum(map(len, found))} lines: {notes - refused} notes compared")
@@ -790,10 +642,10 @@ def few_duplicates():
 
 def one_file():
     """A file that is named twice is refused by `duplicates`, and read twice by the others."""
-    os.makedirs(os.path.join(folder, "inner"), exist_ok=True)
+    os.makedirs(path("inner"), exist_ok=True)
     file("same", b"x\n")
     for link, make in (("soft", os.symlink), ("hard", os.link)):
-        make(os.path.join(folder, "same"), os.path.join(folder, link))
+        make(path("same"), path(link))
     rest = "each of its notes would be its own duplicate"
     expect("a file twice", run(["duplicates", "raw", "same", "same"]), (b"", said(f"same is named twice: {rest}"), 2))
     expect("a file twice in two forms", run(["duplicates", "--between", "raw", "same", "T", "same"]), (b"", said(f"same is named twice: {rest}"), 2))
@@ -813,20 +665,19 @@ def changed():
         ("no file", None, f"a {GONE}"),
     ]:
         expect(f"a file that is changed to {name}", changed_to(new, SCRIPT, {}), (b"", said(told), 2))
-    wrong = [*emulator, os.path.join(PROGRAMS, "wrong", "compare")]
+    wrong = [*emulator(), os.path.join(PROGRAMS, "wrong", "compare")]
     expect("where all keys have one hash, a change is not noticed", changed_to(b"z\ny\n", wrong, {"SPOIL": "hash"})[2], 0)
 
 
 def changed_to(new, command, environment):
     """A run of `duplicates` on a file that is changed before the second one is written."""
     file("a", b"x\ny\n")
-    pipe = os.path.join(folder, "pipe")
+    pipe = path("pipe")
     os.mkfifo(pipe)
-    process = subprocess.Popen([*command, "duplicates", "raw", "a", "pipe"], cwd=folder, stdin=subprocess.DEVNULL, stdout=subprocess.PIPE,
-                               stderr=subprocess.PIPE, env={**os.environ, **environment})
+    process = start(["duplicates", "raw", "a", "pipe"], command, env={**os.environ, **environment})
     writes = opened_pipe(pipe)
     if new is None:
-        os.remove(os.path.join(folder, "a"))
+        os.remove(path("a"))
     else:
         file("a", new)
     os.write(writes, b"x\n")
@@ -877,7 +728,7 @@ def arrivals():
     expect("an empty line between others", as_told(run(keys, b"a\n\nb\n")), wanted_of([(b"a", b"a"), (b"", (3, 0)), (b"b", b"b")]))
     expect("a line that never ends, and more", as_told(run(keys, b"a" * 5000000 + b"\n" + ASKED)), wanted_of([(b"", (1, 4096)), *LINES]))
     expect("a line that never ends", as_told(run(keys, b"a" * 5000000)), wanted_of([(b"", (1, 4096))]))
-    out, _, _ = run(["check", "--tsv", "raw", "-"], joined(b"a" * n for n in LENGTHS))
+    out, _, _ = run(["check", "--tsv", "raw", "-"], with_lf(b"a" * n for n in LENGTHS))
     expect("long lines", [row[1:3] for row in table("check", out)], [[b"%d" % at, b"1"] for at, n in enumerate(LENGTHS, 1) if n > 4096])
     expect("many lines", as_told(whole(keys, ASKED * MANY)), wanted_of(LINES * MANY))
     process = start(keys, stdin=subprocess.PIPE, bufsize=0)
@@ -929,32 +780,6 @@ def at_once():
     expect("duplicates ends behind its input", outcome(without_more(process))[2], 1)
 
 
-def give(process, data):
-    """Gives a run some of its input; one that has ended takes none."""
-    try:
-        process.stdin.write(data)
-    except BrokenPipeError:
-        pass
-
-
-def next_line(stream):
-    """The next line of a pipe, or what came of it in ten seconds."""
-    line = b""
-    while not line.endswith(b"\n") and select.select([stream], [], [], 10)[0]:
-        byte = stream.read(1)
-        if not byte:
-            break
-        line += byte
-    return line
-
-
-def without_more(process):
-    """A run whose input is ended."""
-    process.stdin.close()
-    process.stdin = None
-    return process
-
-
 def line_ends():
     """CR and LF, and the byte order mark."""
     keys = ["keys", "T", "-"]
@@ -988,29 +813,28 @@ def line_ends():
 
 def inputs_that_fail():
     """Input that cannot be read."""
-    is_folder = "is a folder: name a file of notes"
     opened = os.open("/", os.O_RDONLY)
-    expect("a folder as input", outcome(start(CALLS["keys"], stdin=opened)), (b"", said(f"standard input {is_folder}"), 2))
+    expect("a folder as input", outcome(start(CALLS["keys"], stdin=opened)), (b"", said(f"standard input {FOLDER}"), 2))
     os.close(opened)
     for verb, call in CALLS.items():
         expect(f"{verb}: a closed input", by_shell(f"notes {' '.join(call)} <&-"), (b"", said("standard input is closed"), 2))
     file("a", b"x\n")
-    os.makedirs(os.path.join(folder, "inner"), exist_ok=True)
+    os.makedirs(path("inner"), exist_ok=True)
     expect("a file, and a closed input", by_shell("notes keys raw a <&-"), (b"x\ta\t1\n", b"", 0))
     expect("a file, and a closed output for errors", by_shell("notes keys T a - 2>&-", b"/\n"), (b"x\ta\t1\n", b"", 1))
     for words in (["keys", "raw"], ["check", "raw"], ["duplicates", "raw"], ["compare", "raw"], ["convert", "raw", "T"], ["withhold", "raw", "0", "1"]):
         verb = words[0]
         expect(f"{verb}: a file that is not there", run([*words, "no such"]), (b"", said(f"no such {GONE}"), 2))
         expect(f"{verb} --tsv: a file that is not there", run([*words, "--tsv", "no such"]), (b"", said(f"no such {GONE}"), 2))
-        expect(f"{verb}: a folder", run([*words, "inner"]), (b"", said(f"inner {is_folder}"), 2))
+        expect(f"{verb}: a folder", run([*words, "inner"]), (b"", said(f"inner {FOLDER}"), 2))
         if verb in ("keys", "check", "duplicates", "compare"):
             expect(f"{verb}: one file that is not there", run([*words, "a", "gone"]), (b"", said(f"gone {GONE}"), 2))
-            wrong = said(f"gone {GONE}", f"inner {is_folder}", "a/b cannot be read: Not a directory (os error 20)", f"lost {GONE}")
+            wrong = said(f"gone {GONE}", f"inner {FOLDER}", "a/b cannot be read: Not a directory (os error 20)", f"lost {GONE}")
             expect(f"{verb}: four that cannot be read", run([*words, "gone", "a", "inner", "a/b", "T", "lost"]), (b"", wrong, 2))
     broken = said("/proc/self/mem cannot be read: Input/output error (os error 5)")
     expect("a file that breaks off", run(["keys", "raw", "a", "/proc/self/mem"]), (b"x\ta\t1\n", broken, 2))
     if os.getuid() != 0:
-        os.chmod(os.path.join(folder, file("secret", b"x\n")), 0)
+        os.chmod(path(file("secret", b"x\n")), 0)
         expect("a file without permission", run(["keys", "raw", "secret"]), (b"", said("secret cannot be read: Permission denied (os error 13)"), 2))
 
 
@@ -1049,8 +873,8 @@ def outputs_that_fail():
 
 def from_outside():
     """A script that is called by a link does its work, or ends as in trouble; and a program that is ended before its end."""
-    os.symlink(SCRIPT[1], os.path.join(folder, "link"))
-    got, direct = run(CALLS["keys"], b"a\n", ["bash", os.path.join(folder, "link")]), run(CALLS["keys"], b"a\n")
+    os.symlink(SCRIPT[1], path("link"))
+    got, direct = run(CALLS["keys"], b"a\n", ["bash", path("link")]), run(CALLS["keys"], b"a\n")
     expect("notes.sh by a link", direct if got[2] == 2 else got, direct)
     process = start(CALLS["keys"], stdin=subprocess.PIPE, bufsize=0)
     give(process, b"a\n")
@@ -1251,9 +1075,8 @@ def comparison():
            (b"-: 1 line, 0 alike (0 accepted, 0 refused), 1 different (D2: 1, unexplained: 0)", b"", 0))
     for given, told, to in BOTH:
         with open(to, "wb") as opened:
-            done = subprocess.run([*emulator, os.path.join(PROGRAMS, "both"), *given.split()], stdin=subprocess.DEVNULL, stdout=opened,
-                                  stderr=subprocess.PIPE, timeout=LIMIT, cwd=SAMPLES)
-        expect(f"both {given}", (done.stderr.startswith(f"both: {told}".encode()), done.returncode), (True, 2))
+            _, err, status = program("both", given.split(), stdout=opened, cwd=SAMPLES)
+        expect(f"both {given}", (err.startswith(f"both: {told}".encode()), status), (True, 2))
 
 
 def statuses():
@@ -1273,48 +1096,13 @@ PARTS = [pages, words, refusals, long_lines, lost, few_duplicates, duplicates, o
          outputs_that_fail, from_outside, names, ranges, progress, comparison, statuses, compared_keys, compared_checks, compared_copies, compared_conversions]
 
 
-def found_emulator():
-    """What runs a program of host/link.sh here."""
-    asked = ["bash", "-c", '. "$0" && find_run && printf "%s\\n" "${run[@]}"', os.path.join(HERE, "tools.sh")]
-    printed = subprocess.run(asked, stdin=subprocess.DEVNULL, capture_output=True, check=True, text=True).stdout
-    return [word for word in printed.split("\n") if word]
+def needs():
+    """Sees to it that notes.sh and the programs that go with it can be run."""
+    can_run("keys", "compare")
+    for name in ("both", "wrong/compare"):
+        if not os.access(os.path.join(PROGRAMS, name), os.X_OK):
+            raise OSError(f"this is missing: {os.path.join(PROGRAMS, name)} (host/link.sh builds it)")
+    emulator()
 
 
-def cannot_run():
-    """Why notes.sh, or a program that goes with it, cannot be run, if that is so. The first calls may build, which takes its time."""
-    for verb in ("keys", "compare"):
-        _, err, status = outcome(start([verb, "raw", os.devnull]), None)
-        if status != 0:
-            return f"notes.sh {verb} cannot be run (status {status}): {err.decode(errors='replace')}"
-    missing = [name for name in ("both", "wrong/compare") if not os.access(os.path.join(PROGRAMS, name), os.X_OK)]
-    return f"this is missing: {os.path.join(PROGRAMS, missing[0])} (host/link.sh builds it)" if missing else None
-
-
-def main():
-    """Runs all parts and tells what they found."""
-    global folder, emulator
-    if len(sys.argv) > 1:
-        print(__doc__.strip(), file=sys.stdout if sys.argv[1:] == ["--help"] else sys.stderr)
-        return 0 if sys.argv[1:] == ["--help"] else 2
-    reason = cannot_run()
-    if reason:
-        print(f"notes.py: {reason}", file=sys.stderr)
-        return 2
-    emulator = found_emulator()
-    with tempfile.TemporaryDirectory() as folder:
-        for part in PARTS:
-            try:
-                part()
-            except (LookupError, ValueError) as error:
-                faults.append(f"{part.__doc__} What is printed there cannot be read: {error!r}")
-    for fault in faults[:20]:
-        print(fault)
-    print(f"{count} outcomes of notes.sh looked at, {answers} answers beside a second reading, {len(faults)} other than they should be")
-    return 1 if faults else 0
-
-
-try:
-    sys.exit(main())
-except (ImportError, OSError, subprocess.SubprocessError) as error:
-    print(f"notes.py: {error}", file=sys.stderr)
-    sys.exit(2)
+main(__doc__, needs, PARTS, "notes.sh", "answers")

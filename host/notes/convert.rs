@@ -2,6 +2,7 @@
 
 use crate::desk::Desk;
 use crate::files::{counted, look_at, KEPT};
+use crate::refusals::Refused;
 use crate::words::Words;
 use crate::writing::Writing;
 use crate::{Failure, Outcome};
@@ -14,17 +15,19 @@ pub fn verb(desk: &mut Desk, mut words: Words) -> Outcome {
     let source = words.source(from)?;
     look_at([&source])?;
     let (mut port, mut losses) = (Port::default(), Losses::default());
-    let mut writing = Writing::of(desk, &source, tsv, &[b"kept"])?;
+    let mut writing = Writing::of(desk, tsv, [b"file", b"line"], &[b"kept"])?;
     let mut lines = source.lines(KEPT)?;
     while let Some(line) = lines.next(desk)? {
+        let number = line.number.to_string();
+        let head = [source.name.as_encoded_bytes(), number.as_bytes()];
         match port.written(from, to, line.bytes).map(<[u8]>::to_vec) {
-            Err(refusal) => writing.refused(desk, &line, refusal)?,
+            Err(refusal) => writing.refused(desk, head, &[Refused::of(&source, &line, refusal)])?,
             Ok(written) => {
                 let kept = is_kept(&mut port, from, to, line.bytes, &written);
                 if !kept {
                     losses.count(&written, source.at(line.number));
                 }
-                writing.wrote(desk, &line, &[if kept { b"yes" } else { b"no" }], &written)?;
+                writing.wrote(desk, head, &[if kept { b"yes" } else { b"no" }], &written)?;
             }
         }
     }

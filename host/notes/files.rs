@@ -223,7 +223,7 @@ impl Lines<'_> {
 }
 
 /// How much of a line that was cut is whole characters, or bytes that are none.
-fn whole(line: &[u8]) -> usize {
+pub fn whole(line: &[u8]) -> usize {
     line.len() - line.utf8_chunks().last().map_or(0, |last| last.invalid().len())
 }
 

@@ -7,6 +7,7 @@ mod convert;
 mod desk;
 mod duplicates;
 mod files;
+mod join;
 mod keys;
 mod refusals;
 mod table;
@@ -50,6 +51,7 @@ const VERBS: &[Verb] = &[
     Verb { name: "convert", options: &["--tsv"], done: convert::verb },
     Verb { name: "check", options: &["--tsv"], done: check::verb },
     Verb { name: "withhold", options: &["--ranges FILE", "--tsv"], done: withhold::verb },
+    Verb { name: "join", options: &["--tsv"], done: join::verb },
     #[cfg(original)]
     Verb { name: "compare", options: &["--tsv"], done: compare::verb },
 ];

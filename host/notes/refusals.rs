@@ -57,6 +57,20 @@ impl Refusals {
     }
 }
 
+/// A note that is refused, or a part of one: where it stands, its bytes, and what refuses it.
+pub struct Refused<'a> {
+    pub at: String,
+    pub bytes: &'a [u8],
+    pub refusal: Refusal,
+}
+
+impl<'a> Refused<'a> {
+    /// A line of a file.
+    pub fn of(source: &Source, line: &Line<'a>, refusal: Refusal) -> Self {
+        Self { at: source.at(line.number), bytes: line.bytes, refusal }
+    }
+}
+
 /// A refusal's words, and what to do; README.md has the same.
 pub fn words(number: u64) -> (&'static str, &'static str) {
     match number {

@@ -2,6 +2,7 @@
 
 use crate::desk::Desk;
 use crate::files::{look_at, Lines, Source, KEPT};
+use crate::refusals::Refused;
 use crate::words::{number, Words};
 use crate::writing::Writing;
 use crate::{Failure, Outcome};
@@ -22,13 +23,15 @@ pub fn verb(desk: &mut Desk, mut words: Words) -> Outcome {
     }
     look_at([&source].into_iter().chain(&ranges))?;
     let mut ranges = ranges.as_ref().map(Ranges::of).transpose()?;
-    let (mut port, mut writing) = (Port::default(), Writing::of(desk, &source, tsv, &[])?);
+    let (mut port, mut writing) = (Port::default(), Writing::of(desk, tsv, [b"file", b"line"], &[])?);
     let mut lines = source.lines(KEPT)?;
     while let Some(line) = lines.next(desk)? {
         let (start, end) = ranges.as_mut().map_or(Ok(range), |ranges| ranges.next(desk, &source, line.number))?;
+        let number = line.number.to_string();
+        let head = [source.name.as_encoded_bytes(), number.as_bytes()];
         match port.withheld(form, line.bytes, start, end) {
-            Ok(copy) => writing.wrote(desk, &line, &[], copy)?,
-            Err(refusal) => writing.refused(desk, &line, refusal)?,
+            Ok(copy) => writing.wrote(desk, head, &[], copy)?,
+            Err(refusal) => writing.refused(desk, head, &[Refused::of(&source, &line, refusal)])?,
         }
     }
     ranges.map_or(Ok(()), |ranges| ranges.end(desk, &source, writing.notes()))?;

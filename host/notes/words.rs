@@ -74,6 +74,19 @@ impl Words {
         number.ok_or_else(|| Failure::Words(format!("{} is no {what}: that is a number of characters, from 0 up", quoted(&word))))
     }
 
+    /// The next word, where it is one of these.
+    pub fn one_of(&mut self, these: &[&'static str]) -> Option<&'static str> {
+        let found = these.iter().copied().find(|known| self.rest.front().is_some_and(|word| word == known))?;
+        self.rest.pop_front();
+        Some(found)
+    }
+
+    /// That the next word is not what is needed there, or that there is none.
+    pub fn lacks(&self, what: &str, needed: &str) -> Failure {
+        let found = self.rest.front().map_or(format!("no {what} is named"), |word| format!("{} is no {what}", quoted(word)));
+        Failure::Words(format!("{found}: {needed}"))
+    }
+
     /// Whether the next words are two numbers.
     pub fn has_numbers(&self) -> bool {
         let numbers = self.rest.iter().take(2).filter(|word| word.to_str().is_some_and(|word| number(word).is_some()));
@@ -91,7 +104,12 @@ impl Words {
 
     /// One or more files of notes behind their form, and perhaps more behind another.
     pub fn sources(mut self) -> Result<Vec<Source>, Failure> {
-        let mut form = self.form("form")?;
+        let form = self.form("form")?;
+        self.sources_in(form)
+    }
+
+    /// The same where the first form is known.
+    pub fn sources_in(mut self, mut form: Form) -> Result<Vec<Source>, Failure> {
         let (mut sources, mut named): (Vec<Source>, usize) = (vec![], 0);
         while let Some(word) = self.rest.pop_front() {
             match self::form(&word).filter(|_| named > 0) {

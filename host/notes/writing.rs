@@ -1,53 +1,49 @@
 //! A line for each note: what is written of it, or an empty one where it is refused; with --tsv a row.
 
 use crate::desk::Desk;
-use crate::files::{Line, Source};
-use crate::refusals::Refusals;
+use crate::refusals::{shown, Refusals, Refused};
 use crate::table::row;
 use crate::{Failure, Outcome};
-use sides::answers::Refusal;
 
-pub struct Writing<'a> {
-    source: &'a Source,
+pub struct Writing {
     tsv: bool,
     /// How many cells stand before the note, behind what refuses it.
     more: usize,
     refusals: Refusals,
 }
 
-impl<'a> Writing<'a> {
+/// The two cells that a row begins with.
+type Head<'a> = [&'a [u8]; 2];
+
+impl Writing {
     /// Begins, in a table with its heading.
-    pub fn of(desk: &mut Desk, source: &'a Source, tsv: bool, more: &[&[u8]]) -> Result<Self, Failure> {
+    pub fn of(desk: &mut Desk, tsv: bool, head: Head, more: &[&[u8]]) -> Result<Self, Failure> {
         if tsv {
-            row(desk, &[&[&b"file"[..], b"line", b"number", b"place"], more, &[b"note"]].concat())?;
+            row(desk, &[&head[..], &[b"number", b"place"], more, &[b"note"]].concat())?;
         }
-        Ok(Self { source, tsv, more: more.len(), refusals: Refusals::default() })
+        Ok(Self { tsv, more: more.len(), refusals: Refusals::default() })
     }
 
     /// What was written of a note, and what is told of it in a table.
-    pub fn wrote(&mut self, desk: &mut Desk, line: &Line, more: &[&[u8]], note: &[u8]) -> Result<(), Failure> {
+    pub fn wrote(&mut self, desk: &mut Desk, head: Head, more: &[&[u8]], note: &[u8]) -> Result<(), Failure> {
         self.refusals.notes += 1;
         match self.tsv {
-            true => self.row(desk, line, [b"", b""], more, note),
+            true => row(desk, &[&head[..], &[b"", b""], more, &[note]].concat()),
             false => desk.line(note),
         }
     }
 
-    /// What refuses a note.
-    pub fn refused(&mut self, desk: &mut Desk, line: &Line, refusal: Refusal) -> Result<(), Failure> {
+    /// What refuses a note, or parts of it: the first is counted, and stands in a table.
+    pub fn refused(&mut self, desk: &mut Desk, head: Head, refused: &[Refused]) -> Result<(), Failure> {
+        let first = refused[0].refusal;
         self.refusals.notes += 1;
+        self.refusals.count(first);
         if self.tsv {
-            self.refusals.count(refusal);
-            let (number, place) = (refusal.number.to_string(), refusal.place.to_string());
-            return self.row(desk, line, [number.as_bytes(), place.as_bytes()], &vec![&b""[..]; self.more], b"");
+            let (number, place) = (first.number.to_string(), first.place.to_string());
+            return row(desk, &[&head[..], &[number.as_bytes(), place.as_bytes()], &vec![&b""[..]; self.more + 1]].concat());
         }
         desk.line(b"")?;
-        self.refusals.say(desk, self.source, line, refusal)
-    }
-
-    fn row(&self, desk: &mut Desk, line: &Line, refused: [&[u8]; 2], more: &[&[u8]], note: &[u8]) -> Result<(), Failure> {
-        let number = line.number.to_string();
-        row(desk, &[&[self.source.name.as_encoded_bytes(), number.as_bytes()], &refused[..], more, &[note]].concat())
+        refused.iter().try_for_each(|part| desk.say(&shown(&part.at, part.bytes, part.refusal)))
     }
 
     /// How many notes there were.
