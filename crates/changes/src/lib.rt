@@ -1,4 +1,6 @@
 // Changes of a sentence that lies in lent buffers.
+#![tactic(auto)]
+
 ghost use Rattle.std.specs.Prelude.{◌≡◌, ◌&&◌, leb};
 ghost use Rattle.sheet.specs.Layout.{lent_after, lent_before, with_boundaries, with_cells};
 ghost use Rattle.changes.specs.Changes.{DefaultSet, BoundarySet, TagsReset};

@@ -1,4 +1,6 @@
 // The conversion of a line from one form to another.
+#![tactic(auto)]
+
 ghost use Rattle.std.specs.Prelude.{◌≡◌, length};
 ghost use Rattle.convert_buffers.specs.Between.{Converts};
 ghost use Rattle.convert.specs.Convert.{unknown_forms, out_of_range, conversion};

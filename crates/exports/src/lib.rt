@@ -1,5 +1,7 @@
 // The host's calls: a number's type, a line converted, a line read into lent buffers, a sheet written, its withheld copy, its key, a step of the token
 // cursor. Each answers one number; a refusal is 2^63 plus 256 times its place plus its number.
+#![tactic(auto)]
+
 ghost use Rattle.std.specs.Prelude.{◌≡◌, ◌≤◌, length};
 ghost use Rattle.laws.specs.Put.{over};
 ghost use Rattle.types.specs.TypeOf.{type_of};

@@ -1,4 +1,6 @@
 // Look-ups in a sentence that lies in lent buffers. Each answers 13 where there is no sheet, then 14 where a number is out of range.
+#![tactic(auto)]
+
 ghost use Rattle.std.specs.Prelude.{◌≡◌};
 ghost use Rattle.sheet.specs.Layout.{spell, lent_before};
 ghost use Rattle.sheet.specs.Check.{is_sheet};

@@ -1,4 +1,6 @@
 // The readers: a line of each form into eight lent buffers.
+#![tactic(auto)]
+
 ghost use Rattle.sentence.specs.declared.Form.TheVariants.{Raw as raw, Tokenized as tokenized, Partial as partial};
 ghost use Rattle.sentence.specs.Reading.{read};
 ghost use Rattle.sheet.specs.Layout.{lent_after, lent_before};

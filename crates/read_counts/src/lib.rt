@@ -1,4 +1,6 @@
 // What is counted of a line while it is read.
+#![tactic(auto)]
+
 pub mod unchecked;
 
 ghost use Rattle.std.specs.Prelude.{◌≡◌};

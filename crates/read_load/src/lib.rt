@@ -1,4 +1,6 @@
 // One line of any form into eight lent buffers.
+#![tactic(auto)]
+
 pub mod unchecked; // unchecked.rt: for a record of a sentence
 
 ghost use Rattle.sentence.specs.Reading.{read};

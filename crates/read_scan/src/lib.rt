@@ -1,4 +1,6 @@
 // One pass over a line: it is tested to be UTF-8, its characters step the reader, and what they do is counted.
+#![tactic(auto)]
+
 ghost use Rattle.std.specs.Prelude.{◌≡◌, ◌+◌, ◌≤◌, length, drop};
 ghost use Rattle.sentence.specs.Refusals.{refusal};
 ghost use Rattle.sentence.specs.Reading.{read, finish};

@@ -1,4 +1,6 @@
 // The state of a reader, stepped by value over the characters of a line.
+#![tactic(auto)]
+
 pub mod unchecked;
 
 ghost use Rattle.std.specs.Prelude.{◌≡◌, true, false};

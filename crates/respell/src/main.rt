@@ -1,5 +1,7 @@
 // Reads lines from standard input, each two form letters and a sentence line, and prints each line in the other form, or its refusal. A call of the
 // system that fails is told on standard error, and ends the run.
+#![tactic(auto)]
+
 ghost use Rattle.std.specs.Prelude.{◌+◌, ◌≤◌, ◌<◌, ◌≡◌, true, length};
 ghost use Rattle.respelling.specs.Run.{Stands, Behind, ReadSome, WroteSome, goes_on, Went, Ended};
 

@@ -1,4 +1,6 @@
 // What the program `respell` does between its calls of the system, on slices.
+#![tactic(auto)]
+
 pub mod unchecked;
 
 // What was done with a piece of input: the bytes used, and the bytes written.

@@ -1,4 +1,6 @@
 // The boundary decision: boundaries by scores.
+#![tactic(auto)]
+
 ghost use Rattle.sheet.specs.Layout.{lent_before, with_boundaries};
 ghost use Rattle.scores.specs.Scores.{Predicted};
 

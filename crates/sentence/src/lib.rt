@@ -1,4 +1,6 @@
 // The forms of a line, and what a refused call answers; the definitions of sentences and annotated lines stand in specs/.
+#![tactic(auto)]
+
 pub mod unchecked; // unchecked.rt: for a refusal at a small place
 
 ghost use Rattle.std.specs.Prelude.{◌≡◌};

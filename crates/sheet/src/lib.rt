@@ -1,4 +1,6 @@
 // The sheet: a sentence in eight lent buffers, beside a record by value.
+#![tactic(auto)]
+
 ghost use Rattle.std.specs.Prelude.{◌≡◌, ◌&&◌};
 ghost use Rattle.sheet.specs.Layout.{room_for, lent, lent_before};
 ghost use Rattle.sheet.specs.Check.{in_limits, is_laid, Room, is_sheet};

@@ -1,4 +1,6 @@
 // The passes of a sheet's check, each over slices of the buffers that are the whole of what a record counts.
+#![tactic(auto)]
+
 ghost use Rattle.std.specs.Prelude.{◌+◌, ◌-◌, ◌≤◌, ◌<◌, ◌≡◌, length, take, drop};
 ghost use Rattle.sheet_check.specs.Passes.{zeros, is_plain, is_char, CharFits, is_text, Places, are_marks, is_cell, cells_to, are_cells, are_absent, Row};
 

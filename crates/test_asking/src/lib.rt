@@ -1,6 +1,8 @@
 // The readers and the updates as questions ask them.
 // Here and in the other crates that run cases the eight buffers have short names: text, types, marks (the boundaries), chars and bytes (the positions
 // by character and by byte), cells (where each starts), lens (how long each is) and tags (their bytes).
+#![tactic(auto)]
+
 use read::{
     from_partial_annotation as from_partial, from_raw, from_tokenized,
     update_partial_annotation as update_partial, update_raw, update_tokenized,

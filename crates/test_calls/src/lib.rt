@@ -1,4 +1,6 @@
 // The calls on a sheet that a question asks for, each with its small answer by value; and what a case changes of a sheet.
+#![tactic(auto)]
+
 ghost use Rattle.std.specs.Prelude.{◌≤◌};
 
 use changes::{reset_tags, set_boundary};

@@ -1,5 +1,7 @@
 // Asks the public functions what the questions of the input ask: each line is written back, a question with its answer.
 // A question is fields between spaces, the first a letter, its kind. A line that starts with # is no question.
+#![tactic(auto)]
+
 mod rooms;
 mod sheets;
 

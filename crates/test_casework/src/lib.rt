@@ -1,5 +1,7 @@
 // What the programs that run cases share: the lines of the input, the fields of a line, the bytes and numbers that they spell, and the line of an answer.
 // Every function is total: what is out of range is taken as nothing.
+#![tactic(auto)]
+
 mod fields;
 mod hex;
 mod lines;

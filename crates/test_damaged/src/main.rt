@@ -4,6 +4,8 @@
 // Sheet 0 has three characters, the second of three bytes, in two columns: the tag x, then an absent tag and a tag of two bytes,
 // then none. Sheet 1 is the tokenized line `a//x b/y`. Sheet 2 is `ab`, without columns but with room for three cells. Sheet 3
 // is 17 times `a`, without columns but with room for 4,096.
+#![tactic(auto)]
+
 mod damage;
 mod show;
 

@@ -8,6 +8,8 @@
 // columns and E the cells; L: of the buffer with the index only so many elements are lent; - changes nothing.
 // An answer is `=` and the key or copy in hex, or `!` with number and place of a refusal; a `+` behind it says that output changed which must
 // not. The output is full of one byte before each call. A line that starts with # is no question.
+#![tactic(auto)]
+
 mod copies;
 mod question;
 

@@ -1,4 +1,6 @@
 // The fields of an answer, put together from a sheet by the public functions.
+#![tactic(auto)]
+
 pub mod lists; // lists.rt: the answers on the list of all tokens
 pub mod sheets; // sheets.rt: the answers on a sheet
 

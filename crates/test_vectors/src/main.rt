@@ -1,5 +1,7 @@
 // Runs cases against the public functions of the libraries: each line of the input is written back, a case with its answer.
 // A case is a letter, its kind, and hex digits, two to a byte. A line that starts with # is no case.
+#![tactic(auto)]
+
 use test_casework::{find, within};
 use utf8::unchecked::Encoded;
 

@@ -1,4 +1,6 @@
 // Tokens: a cursor that each step hands back, and the list of all tokens of a sentence.
+#![tactic(auto)]
+
 pub mod unchecked; // unchecked.rt: for a sheet that was checked
 
 ghost use Rattle.std.specs.Prelude.{◌≡◌, length};

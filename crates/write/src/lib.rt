@@ -1,5 +1,7 @@
 // The writers of any sheet: each answers the length of the line that it wrote at the front of the output, or 13, or 12 at the length needed; with a
 // range 14 at its start comes between.
+#![tactic(auto)]
+
 ghost use Rattle.std.specs.Prelude.{◌≡◌};
 ghost use Rattle.sentence.specs.declared.Form.TheVariants.{Tokenized as tokenized, Partial as partial};
 ghost use Rattle.sentence.specs.Refusals.{refusal};

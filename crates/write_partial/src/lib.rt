@@ -1,2 +1,4 @@
 // The partial form of a checked sheet.
+#![tactic(auto)]
+
 pub mod unchecked;

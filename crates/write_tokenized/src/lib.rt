@@ -1,2 +1,4 @@
 // The tokenized form of a checked sheet.
+#![tactic(auto)]
+
 pub mod unchecked;
