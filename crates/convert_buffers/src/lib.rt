@@ -6,7 +6,7 @@ pub mod unchecked;
 use sentence::Refusal;
 
 // What a conversion answers: where the written line ends in the output, or a refusal.
-#[derive(Drop)]
+#[derive(Clone, Copy)]
 pub enum Converted {
     Wrote(usize),
     Refused(Refusal),

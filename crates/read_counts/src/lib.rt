@@ -8,7 +8,7 @@ ghost use Rattle.read_counts.specs.Counts.{nothing};
 
 // The characters, text bytes, columns and tag bytes so far; of the last character the tags that were closed; and whether a tag is open,
 // with its bytes so far. Tags and bytes of the open tag are narrow so that the record has no hole of many bytes, which would be copied with it.
-#[derive(Drop)]
+#[derive(Clone, Copy)]
 pub struct Counts {
     pub n: usize,
     pub b: usize,

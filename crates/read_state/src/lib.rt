@@ -14,7 +14,7 @@ ghost use Rattle.read_state.specs.Flags.{mark_of, place_of, state_of, flags, kin
 use sentence::Form;
 
 // A boundary between two characters.
-#[derive(Drop)]
+#[derive(Clone, Copy)]
 pub enum Mark {
     None,
     Word,
@@ -22,7 +22,7 @@ pub enum Mark {
 }
 
 // What a character means where it is not escaped.
-#[derive(Drop)]
+#[derive(Clone, Copy)]
 pub enum Kind {
     Mark(Mark),
     Slash,
@@ -31,7 +31,7 @@ pub enum Kind {
 }
 
 // What a character does: nothing; it is text; it opens a tag; it is of the open tag.
-#[derive(Drop)]
+#[derive(Clone, Copy)]
 pub enum Act {
     Skip,
     Letter,
@@ -40,7 +40,7 @@ pub enum Act {
 }
 
 // Where a reader stands: behind a backslash, in an open tag, behind a boundary (and which), and whether any text was read.
-#[derive(Drop)]
+#[derive(Clone, Copy)]
 pub struct State {
     pub escape: bool,
     pub tag_open: bool,
@@ -50,7 +50,7 @@ pub struct State {
 }
 
 // What a step hands back: the next state, what the character does, the boundary before it where it is text, the refusal's number or 0, and the character.
-#[derive(Drop)]
+#[derive(Clone, Copy)]
 pub struct Stepped {
     pub state: State,
     pub act: Act,
@@ -60,7 +60,7 @@ pub struct Stepped {
 }
 
 // What the line's end gives.
-#[derive(Drop)]
+#[derive(Clone, Copy)]
 pub enum Ended {
     Whole,
     Refuse(u8),

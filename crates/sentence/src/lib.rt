@@ -8,7 +8,7 @@ ghost use Rattle.sentence.specs.Forms.{no_reader, no_writer, form_of};
 ghost use Rattle.sentence.specs.Refusals.{refusal};
 
 // The form of a line.
-#[derive(Drop)]
+#[derive(Clone, Copy)]
 pub enum Form {
     Raw,
     Tokenized,
@@ -45,7 +45,7 @@ impl Form {
 }
 
 // A refusal: its number in the table of refusals, and its place.
-#[derive(Drop)]
+#[derive(Clone, Copy)]
 pub struct Refusal {
     pub number: u8,
     pub place: usize,

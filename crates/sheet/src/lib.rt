@@ -8,7 +8,7 @@ ghost use Rattle.sheet.specs.Check.{in_limits, is_laid, Room, is_sheet};
 use sentence::Refusal;
 
 // How much of the buffers a sentence takes: characters, text bytes, tag columns, cells (characters times columns), tag bytes.
-#[derive(Drop)]
+#[derive(Clone, Copy)]
 pub struct Record {
     pub n: usize,
     pub b: usize,
@@ -18,21 +18,21 @@ pub struct Record {
 }
 
 // What a call answers that leaves a sentence in the buffers.
-#[derive(Drop)]
+#[derive(Clone, Copy)]
 pub enum Answer {
     Sentence(Record),
     Refused(Refusal),
 }
 
 // What a call answers that asks for a number.
-#[derive(Drop)]
+#[derive(Clone, Copy)]
 pub enum Number {
     Is(usize),
     Refused(Refusal),
 }
 
 // What a call answers that asks for bytes of a buffer; an absent tag has none.
-#[derive(Drop)]
+#[derive(Clone, Copy)]
 pub enum Slice {
     Bytes { start: usize, end: usize },
     Absent,

@@ -11,21 +11,21 @@ use sentence::{NO_SHEET, Refusal};
 use sheet::{Number, Record};
 
 // A token: the number of its first character, and of the one after its last.
-#[derive(Drop)]
+#[derive(Clone, Copy)]
 pub struct Token {
     pub start: u16,
     pub end: u16,
 }
 
 // What a step of the cursor answers: a token, whose end is the next cursor, or that it is done and where.
-#[derive(Drop)]
+#[derive(Clone, Copy)]
 pub enum Step {
     Serves(Token),
     Done { at: usize },
 }
 
 // What a step on a sheet answers.
-#[derive(Drop)]
+#[derive(Clone, Copy)]
 pub enum Next {
     Is(Step),
     Refused(Refusal),

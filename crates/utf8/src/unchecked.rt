@@ -4,14 +4,14 @@ ghost use Rattle.utf8.specs.Utf8.{decode_at, is_char, scalar, encode, filled};
 ghost use Rattle.utf8.specs.declared.Decoded.TheVariants.{Char};
 
 // A character and how many bytes it takes.
-#[derive(Drop)]
+#[derive(Clone, Copy)]
 pub struct Found {
     pub value: u32,
     pub len: usize,
 }
 
 // The bytes of a scalar value, and 0 after them; `len` counts them.
-#[derive(Drop)]
+#[derive(Clone, Copy)]
 pub struct Encoded {
     pub bytes: [u8; 4],
     pub len: usize,

@@ -1,0 +1,33 @@
+-- `utf8::valid_up_to` meets its contract.
+use Prim.Native.Nat.{◌-◌}
+use native.Mathlib.Omega.{arith}
+use borrow.Author.Rules.{rules}
+use lib.ListN.{length}
+use Rattle.utf8.proofs.Laws.{Passed, Sized, len_met, decode_out, passed_char, passed_bad, passed_end}
+use Rattle.laws.proofs.Tests.{met}
+use Rattle.utf8.proofs.valid_up_to.Goals as goal
+use Rattle.utf8.proofs.valid_up_to.Goals.{In-Char}
+
+pub loop-at-init : goal.loop-at-init
+loop-at-init c = record { same = omega arith }
+
+sized : (c : In-Char) → Sized c.in-Char.len
+sized c = search len_met
+
+pub overflow_add-at : goal.overflow_add-at
+overflow_add-at c = omega (arith, sized (goal.at.overflow_add-at c).In-Char)
+
+pub loop-at-smaller : goal.loop-at-smaller
+loop-at-smaller c = omega (arith, sized (goal.at.loop-at-smaller c).In-Char)
+
+pub loop-at-preserved : goal.loop-at-preserved
+loop-at-preserved c = search passed_char
+
+pub returns-in-Bad : goal.returns-in-Bad
+returns-in-Bad c = search passed_bad
+
+pub returns-in-End : goal.returns-in-End
+returns-in-End c = search (passed_end, met)
+
+pub returns : goal.returns
+returns c = search (passed_end, decode_out)
