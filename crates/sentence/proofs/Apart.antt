@@ -18,7 +18,7 @@ use Rattle.sentence.specs.Writing.{sign}
 use Rattle.sentence.specs.Joined.{join, JoinsBy, glue, glued, awaits, onward, lone, ends_lone}
 use Rattle.sentence.proofs.Runs.{got, gathered, reads}
 use Rattle.sentence.proofs.Trips.{char_sign}
-use Rattle.sentence.proofs.Shape.{place_of, Near, char, tag, Shown, a_letter, of_tag, a_mark, a_tag, a_back, step_shown}
+use Rattle.sentence.proofs.Shape.{place_of, Near, char, tag, Shown, a_letter, of_tag_lem, a_mark, a_tag, a_back, step_shown}
 use Rattle.sentence.proofs.Demand3.{Scalars}
 use Rattle.sentence.proofs.Joined.{attach, joined, add_joined, Goes, goes, step_goes, found, glue_scalars, glue_encodes}
 
@@ -93,7 +93,7 @@ mark_apart p m x y (by_open b e t u ts us n k r q h) = absurd (let z : ◌≡◌
 step_apart : (f : Form) (σ : State) (k : Kind) (c : ℕ) {σ' : State} {a : Act} (x y : Parsed) → Shown σ k c (go σ' a) → Apart (place_of σ') x y → Apart (place_of σ) (add a x) (add a y)
 unfolding add
 step_apart f σ k c x y (a_letter m) h = letter_apart (place_of σ) m c x y h
-step_apart f σ k c x y (of_tag o) h = tag_apart (place_of σ) o c x y h
+step_apart f σ k c x y (of_tag_lem o) h = tag_apart (place_of σ) o c x y h
 step_apart f σ k c x y (a_mark m) h = mark_apart (place_of σ) m x y h
 step_apart f σ k c x y (a_tag o) h = opens_apart (place_of σ) o x y h
 step_apart f σ k c x y (a_back p e i) h = rw i h

@@ -21,7 +21,7 @@ use Rattle.sentence.specs.Writing.{Token, token, tokens_from, surface, escape_as
 use Rattle.sentence.specs.Joined.{awaits, onward, lone, ends_lone}
 use Rattle.sentence.proofs.Runs.{reads, adds, adds_skip, kind_back, kind_slash}
 use Rattle.sentence.proofs.Trips.{kind_sign, Literal, literal_gap, literal_start, kind_space}
-use Rattle.sentence.proofs.Shape.{Shown, a_letter, of_tag, a_mark, a_tag, a_back, a_stop, step_shown}
+use Rattle.sentence.proofs.Shape.{Shown, a_letter, of_tag_lem, a_mark, a_tag, a_back, a_stop, step_shown}
 use Rattle.sentence.proofs.Demand3.{Scalars, read_chars}
 use Rattle.sentence.proofs.Joined.{goes_reads, found}
 
@@ -61,7 +61,7 @@ step_awaits f σ k c = on (step f σ k c) (step_shown f σ k c)
   where
     on : (s : Step) → Shown σ k c s → Awaits σ k s
     on s (a_letter m) = tt
-    on s (of_tag o) = tt
+    on s (of_tag_lem o) = tt
     on s (a_mark m) = tt
     on s (a_tag o) = tt
     on s (a_back p e i) = (e, i, refl)

@@ -69,7 +69,7 @@ pub data Near : Place → Type 0 where
 -- what a step can be: text, a character of a tag, a boundary, an open tag, a backslash, or a refusal
 pub data Shown (σ : State) (k : Kind) (c : ℕ) : Step → Type 0 where
   a_letter : (m : Mark) → Shown σ k c (go (at behind) (letter m c))
-  of_tag : place_of σ ≡ in_tag → Shown σ k c (go (at in_tag) (of_tag c))
+  of_tag_lem : place_of σ ≡ in_tag → Shown σ k c (go (at in_tag) (of_tag c))
   a_mark : (m : Mark) → Shown σ k c (go (at (gap m)) skip)
   a_tag : Near (place_of σ) → Shown σ k c (go (at in_tag) opens)
   a_back : (p : Place) → k ≡ back → σ ≡ at p → Shown σ k c (go (escaped p) skip)
@@ -79,7 +79,7 @@ ordinary_shown : (σ : State) (k : Kind) (f : Form) (p : Place) (c : ℕ) → pl
 unfolding ordinary
 ordinary_shown σ k f start c i = a_letter none
 ordinary_shown σ k f (gap m) c i = a_letter m
-ordinary_shown σ k f in_tag c i = of_tag i
+ordinary_shown σ k f in_tag c i = of_tag_lem i
 ordinary_shown σ k raw behind c i = a_letter unknown
 ordinary_shown σ k tokenized behind c i = a_letter none
 ordinary_shown σ k partial behind c i = a_stop 9
@@ -115,7 +115,7 @@ step_of f σ k c = on (step f σ k c) (step_shown f σ k c)
   where
     on : (s : Step) → Shown σ k c s → StepOf c s
     on s (a_letter m) = refl
-    on s (of_tag o) = refl
+    on s (of_tag_lem o) = refl
     on s (a_mark m) = tt
     on s (a_tag o) = tt
     on s (a_back p e i) = tt
