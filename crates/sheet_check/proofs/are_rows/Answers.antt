@@ -1,0 +1,24 @@
+-- `sheet_check::are_rows` meets its contract.
+use Prim.Native.Nat.{◌-◌}
+use borrow.Author.Rules.{rules}
+use lib.ListN.{length}
+use Rattle.sheet_check.proofs.Cells.{Rows, rows_start, rows_row, rows-go, rows-no, rows-rest, rows-done}
+use Rattle.sheet_check.proofs.are_rows.Goals as goal
+
+pub loop-i-init : goal.loop-i-init
+loop-i-init c = search rows_start
+
+pub is_row-requires : goal.is_row-requires
+is_row-requires c = search rows_row
+
+pub returns-then-not-is_row : goal.returns-then-not-is_row
+returns-then-not-is_row c = search rows-no
+
+pub loop-i-preserved : goal.loop-i-preserved
+loop-i-preserved c = search rows-go
+
+pub each_cell-requires : goal.each_cell-requires
+each_cell-requires c = search rows-rest
+
+pub returns : goal.returns
+returns c = search rows-done

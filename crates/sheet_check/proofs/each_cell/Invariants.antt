@@ -1,0 +1,13 @@
+-- `sheet_check::each_cell` meets its contract.
+use Prim.Native.Nat.{◌-◌}
+use native.Mathlib.Omega.{arith}
+use lib.ListN.{length}
+use borrow.Author.Rules.{rules}
+use Rattle.sheet_check.proofs.Cells.{Celled, cells_start, cells-go, cells-no, cells-done}
+use Rattle.sheet_check.proofs.each_cell.Given as goal
+
+abbrev pub invariant-loop-i : goal.invariant-loop-i
+invariant-loop-i l = Celled l.bytes l.starts l.lengths l.start l.end l.from l.i
+
+abbrev pub decreases-loop-i : goal.decreases-loop-i
+decreases-loop-i l = length l.lengths - l.i

@@ -1,0 +1,36 @@
+-- `sheet_check::is_plain` meets its contract.
+use Prim.Native.Nat.{◌-◌}
+use mathlib.Core.Path.{refl}
+use native.Mathlib.Omega.{arith}
+use borrow.Author.Rules.{rules}
+use lib.ListN.{length}
+use Rattle.sheet_check.proofs.Steps.{Plainly, plainly_go, plainly_nul, plainly_bad, plainly_end, plainly_done, Reach, reach}
+use Rattle.sheet_check.proofs.is_plain.Goals as goal
+use Rattle.sheet_check.proofs.is_plain.Goals.{In-Char}
+
+pub loop-at-init : goal.loop-at-init
+loop-at-init c = record { is = refl }
+
+pub returns-then-s-at-eq0 : goal.returns-then-s-at-eq0
+returns-then-s-at-eq0 c = search plainly_nul
+
+reached : (c : In-Char) → Reach c.args.s.now c.loop-at.at c.in-Char.value c.in-Char.len
+reached c = search reach
+
+pub overflow_add-at : goal.overflow_add-at
+overflow_add-at c = omega (arith, reached (goal.at.overflow_add-at c).In-Char)
+
+pub loop-at-smaller : goal.loop-at-smaller
+loop-at-smaller c = omega (arith, reached (goal.at.loop-at-smaller c).In-Char)
+
+pub loop-at-preserved : goal.loop-at-preserved
+loop-at-preserved c = search plainly_go
+
+pub returns-in-Bad : goal.returns-in-Bad
+returns-in-Bad c = search plainly_bad
+
+pub returns-in-End : goal.returns-in-End
+returns-in-End c = search plainly_end
+
+pub returns : goal.returns
+returns c = search plainly_done
