@@ -1,0 +1,8 @@
+-- `read_state::State::refused` meets its contract.
+use borrow.Author.Rules.{rules}
+use Rattle.read_state.specs.Flags.{stepped}
+use Rattle.read_state.proofs.State.refused.Goals as goal
+
+pub returns : goal.returns
+unfolding stepped
+returns c = cc
