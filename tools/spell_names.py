@@ -34,6 +34,17 @@ TABLE = {
     "rowEnds": "row_ends_of",
     "heldIn": "held_bytes",
     "text-of": "utf8_of",
+    "is-sheet": "is_sheet_lem",
+    "are-cells": "are_cells_lem",
+    "are-marks": "are_marks_lem",
+    "read-refusals": "host_read_refusals",
+    "row-bytes": "row_bytes_lem",
+    "token-line": "token_line_lem",
+    "update-answer": "update_answer_lem",
+    "update-leaves": "update_leaves_lem",
+    "write-told": "write_told_lem",
+    "of-tag": "of_tag_lem",
+    "tagEnds": "tag_ends_of",
 }
 
 DECLARED = re.compile(r"^( *)((?:(?:pub|abbrev|unfoldable|opaque|ruleset)\s+)*)([^\s(){}.;,@\"«»]+)(?: \{[^{}\n]*\})* :")

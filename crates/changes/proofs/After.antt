@@ -19,7 +19,7 @@ use Rattle.sheet.specs.declared.Answer.TheVariants as answer
 use Rattle.sheet.specs.Layout.{Buffers, record_of, room_for, Holds, spell, mark_of}
 use Rattle.sheet.proofs.Held.{laid_holds}
 use Rattle.sheet.proofs.Eights.{same_is}
-use Rattle.sheet.proofs.Exact.{room_has, is_sheet}
+use Rattle.sheet.proofs.Exact.{room_has, is_sheet_lem}
 use Rattle.sheet.proofs.Look.{bounds, Passed, passed}
 use Rattle.changes.specs.Changes.{Lays, DefaultSet, default_answer, BoundarySet, boundary_answer, TagsReset, lack_cells, reset_answer}
 use Rattle.changes.proofs.Changed.{text_set, rows_set, set_formed, text_bare, rows_bare, no_tag_bytes, reset_formed}
@@ -74,7 +74,7 @@ boundary_holds r d i v a e q l h =
     let s = spell r d in
     let m = mark_of v in
     lays_holds _ (set_boundary_of i m s) d a e q l h (λ p.
-    let k = is_sheet r d (not-false _ p.0) in
+    let k = is_sheet_lem r d (not-false _ p.0) in
     let x = rows_set i m s.cells in
     (set_formed i m s k.formed, room_kept k (set_boundary_of i m s) (text_set i m s.cells) (omega (arith, (bounds k).cells_is, kept_columns k, bounds k)) (omega (arith, (bounds k).cells_is, kept_columns k, bounds k)) (rw x (omega (arith, bounds k)))))
 
@@ -84,7 +84,7 @@ unfolding reset_answer reset_tags_of
 reset_holds r d c a e q l h =
     let s = spell r d in
     lays_holds _ (reset_tags_of c s) d a e q l h (λ p.
-    let k = is_sheet r d (not-false _ p.0) in
+    let k = is_sheet_lem r d (not-false _ p.0) in
     let x = rows_bare s.cells in
     let cells_fit = rw (← (bounds k).n_is) at (cells_room d (count s * c) p.1.1.0) in
     (reset_formed c s (ltb-false 4096 c p.1.0) k.formed, room_kept k (reset_tags_of c s) (text_bare s.cells) cells_fit.0 cells_fit.1 (rw (x, no_tag_bytes) (omega arith))))

@@ -37,7 +37,7 @@ use Rattle.sheet.specs.declared.Slice.{Slice}
 use Rattle.sheet.specs.declared.Slice.TheVariants as slice
 use Rattle.sheet.specs.Layout.{Buffers, record_of, room_for, laid, spell}
 use Rattle.sheet.specs.Check.{is_sheet}
-use Rattle.sheet.proofs.Exact.{is_sheet, holds_is}
+use Rattle.sheet.proofs.Exact.{is_sheet_lem, holds_is}
 use Rattle.lookups.specs.Answers.{char_to_str_pos_of, str_to_char_pos_of, boundary_at, tag_slice, tag_at, surface_at}
 use Rattle.lookups.proofs.Slices.{tag_within, surface_within}
 use Rattle.changes.specs.Changes.{Lays, default_answer, DefaultSet, boundary_answer, BoundarySet, reset_answer, TagsReset}
@@ -666,15 +666,15 @@ decided r d e zs a w = lays (ask_refusals (length zs)) _ _ a (sheet_13_14 (not (
 
 -- ---- the host's other calls
 module _ (f : ℕ) (x : List ℕ) (d : Buffers) (ns : List ℕ) where
-  abbrev read_refusals : List Allowed
-  read_refusals = exactly 16 0 ∷ exactly 14 0 ∷ read_refusals (form_of f) x
+  abbrev host_read_refusals : List Allowed
+  host_read_refusals = exactly 16 0 ∷ exactly 14 0 ∷ read_refusals (form_of f) x
 
   -- by whether the form is unknown, whether the numbers are too few, and what the line reads to
   abbrev answered : Bool → Bool → Result → Answer
   answered b c r = verdict answer.Refused (check b 16 0 ∷ check c 14 0 ∷ []) (read_answer r d)
 
   told : (b c : Bool) (r : Result) → Told (line_refusals (form_of f) x) r
-      → Settled {M = Buffers × List ℕ} read_refusals (of_answer (answered b c r)) (d, ns) (verdict (λ (q : Refusal). d) (check b 16 0 ∷ check c 14 0 ∷ []) (read_leaves r d), read_numbers (answered b c r) ns)
+      → Settled {M = Buffers × List ℕ} host_read_refusals (of_answer (answered b c r)) (d, ns) (verdict (λ (q : Refusal). d) (check b 16 0 ∷ check c 14 0 ∷ []) (read_leaves r d), read_numbers (answered b c r) ns)
   unfolding verdict read_answer read_leaves reader_order read_numbers if◌then◌else◌ of_answer one_of allows
   told true c r h = (refl, refl)
   told false true r h = (refl, refl)
@@ -685,13 +685,13 @@ module _ (f : ℕ) (x : List ℕ) (d : Buffers) (ns : List ℕ) where
   )
   told false false (sentence s) h = on (lacks d s)
     where
-      on : (b : Bool) → Settled {M = Buffers × List ℕ} read_refusals (of_answer (if b then answer.Refused (refusal 11 0) else answer.Sentence (record_of s))) (d, ns)
+      on : (b : Bool) → Settled {M = Buffers × List ℕ} host_read_refusals (of_answer (if b then answer.Refused (refusal 11 0) else answer.Sentence (record_of s))) (d, ns)
           (if b then d else laid s d, read_numbers (if b then answer.Refused (refusal 11 0) else answer.Sentence (record_of s)) ns)
       on true = (refl, refl)
       on false = tt
 
   host_reads : (e : Buffers) (ns' : List ℕ) (a : ℕ) → HostReads f x d ns a e ns'
-      → (c : Answer) × (a ≡ read_code c) × Settled {M = Buffers × List ℕ} read_refusals (of_answer c) (d, ns) (e, ns')
+      → (c : Answer) × (a ≡ read_code c) × Settled {M = Buffers × List ℕ} host_read_refusals (of_answer c) (d, ns) (e, ns')
   unfolding host_answer host_leaves read_first
   host_reads e ns' a w =
       (host_answer f x d (length ns), w.answer_is, rw (same_is w.buffers_are, w.numbers_are) (told (no_reader f) (ltb (length ns) 5) (read (form_of f) x) (read_told (form_of f) x)))
@@ -747,7 +747,7 @@ demand_1 = record {
   set_boundary = λ r d e i v a w. marks_set r d e i v a w;
   reset_tags = λ r d e c a w. tags_reset r d e c a w;
   predict = λ r d e zs a w. decided r d e zs a w;
-  check = λ r d a e. (λ h. is_sheet r d (sym e ∙ h), λ h. e ∙ holds_is r d (spell r d) h);
+  check = λ r d a e. (λ h. is_sheet_lem r d (sym e ∙ h), λ h. e ∙ holds_is r d (spell r d) h);
   convert = λ f g x out out' p a w. converts f g x out out' p a w;
   ighdelmur_convert = λ f g x out out' p a w. converts_host f g x out out' p a w;
   ighdelmur_read = λ f x d e ns ns' a w. host_reads f x d ns e ns' a w;

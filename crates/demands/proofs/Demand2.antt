@@ -31,7 +31,7 @@ use Rattle.sheet.specs.declared.Slice.{Slice}
 use Rattle.sheet.specs.Layout.{Buffers, record_of, room_for, lay, laid, Holds, spell}
 use Rattle.sheet.specs.Check.{is_sheet}
 use Rattle.sheet.proofs.Held.{laid_holds, spelled, holds_once}
-use Rattle.sheet.proofs.Exact.{is_sheet, holds_is, no_sheet}
+use Rattle.sheet.proofs.Exact.{is_sheet_lem, holds_is, no_sheet}
 use Rattle.sheet.proofs.Look.{bounds}
 use Rattle.lookups.specs.Answers.{start_at, char_to_str_pos_of, str_to_char_pos_of, boundary_at, cell, cell_start, tag_slice, tag_at, surface_slice, surface_at}
 use Rattle.lookups.proofs.Slices.{cell_of_table, positions_back, surface_bytes, surface_fits, cell_here}
@@ -107,8 +107,8 @@ writes_any f an r d out out' a w = on (is_sheet r d) refl
     on true e = long (ltb (length out) (needed f (spell r d))) refl
       where
         long : (c : Bool) → ltb (length out) (needed f (spell r d)) ≡ c → Writes f r d out a out'
-        long true l = says.too_short (spell r d) (is_sheet r d e) (ltb-true _ _ l) (w.answer_is ∙ rw (e, l)) (w.out_is ∙ rw (e, l))
-        long false l = says.its_line (spell r d) (is_sheet r d e) (ltb-false _ _ l) (w.answer_is ∙ rw (e, l)) (w.out_is ∙ rw (e, l))
+        long true l = says.too_short (spell r d) (is_sheet_lem r d e) (ltb-true _ _ l) (w.answer_is ∙ rw (e, l)) (w.out_is ∙ rw (e, l))
+        long false l = says.its_line (spell r d) (is_sheet_lem r d e) (ltb-false _ _ l) (w.answer_is ∙ rw (e, l)) (w.out_is ∙ rw (e, l))
 
 steps : (r : Record) (d : Buffers) (s : Sentence) (p : ℕ) (a : Next) → Holds r d s → a ≡ next_of r d p → a ≡ next.Is (step_of (next_token_of (marks s) (count s) p))
 unfolding next_of verdict if◌then◌else◌

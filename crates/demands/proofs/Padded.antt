@@ -29,7 +29,7 @@ use Rattle.sheet.specs.declared.Answer.TheVariants as answer
 use Rattle.sheet.specs.declared.Number.TheVariants as number
 use Rattle.sheet.specs.Layout.{Buffers, record_of, tags_of, cells_of, bytes_of, room_for, Holds, spell}
 use Rattle.sheet.specs.Check.{in_limits, is_laid, is_sheet}
-use Rattle.sheet.specs.Listed.{row_ends_of, tag_ends, Lists}
+use Rattle.sheet.specs.Listed.{row_ends_of, tag_ends_of, Lists}
 use Rattle.sheet.proofs.Held.{laid_holds, spelled, tag_bytes_held}
 use Rattle.sheet.proofs.Exact.{holds_is}
 use Rattle.sheet.proofs.Look.{bounds, cell_start_is, cell_fits}
@@ -120,7 +120,7 @@ same_sentence f x s d c a w e g i n does l =
     let t = demand_2.reads f x s d c a i n does in
     (t.answer_is, sym (same_spelled (record_of s) c s w e g t.holds l))
 
-rows_listed : (s : Sentence) → Lists s (row_ends_of 0 (rows s)) (tag_ends 0 (tags_of (rows s))) (bytes_of (tags_of (rows s)))
+rows_listed : (s : Sentence) → Lists s (row_ends_of 0 (rows s)) (tag_ends_of 0 (tags_of (rows s))) (bytes_of (tags_of (rows s)))
 rows_listed s = record { row_ends_at = take-length _; tag_ends_at = take-length _; tag_bytes_at = take-length _ }
 
 -- ---- `reset_tags`

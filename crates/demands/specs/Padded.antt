@@ -18,7 +18,7 @@ use Rattle.sheet.specs.declared.Number.TheVariants as number
 use Rattle.sheet.specs.declared.Slice.{Slice}
 use Rattle.sheet.specs.Layout.{Buffers, record_of, tags_of, cells_of, bytes_of, laid, room_for, Holds, spell}
 use Rattle.sheet.specs.Check.{is_sheet}
-use Rattle.sheet.specs.Listed.{row_ends_of, tag_ends, Lists, spell_listed}
+use Rattle.sheet.specs.Listed.{row_ends_of, tag_ends_of, Lists, spell_listed}
 use Rattle.lookups.specs.Answers.{char_to_str_pos_of, str_to_char_pos_of, boundary_at, tag_at, surface_at}
 use Rattle.changes.specs.Changes.{TagsReset}
 use Rattle.read_load.specs.Load.{ReadDoes}
@@ -78,7 +78,7 @@ pub record PaddedTable : Type 0 where
       → room_for (record_of s) d ≡ true → ReadDoes (read f x) d a c → Lists s w e g
       → (a ≡ answer.Sentence (record_of s)) × (spell (record_of s) c ≡ listed_of (record_of s) c s w e g)
   -- every sentence has listed rows
-  pub rows_listed : (s : Sentence) → Lists s (row_ends_of 0 (rows s)) (tag_ends 0 (tags_of (rows s))) (bytes_of (tags_of (rows s)))
+  pub rows_listed : (s : Sentence) → Lists s (row_ends_of 0 (rows s)) (tag_ends_of 0 (tags_of (rows s))) (bytes_of (tags_of (rows s)))
   -- `reset_tags` refuses by 14 before 11, and by 11 where one of the lists of cells is too short
   pub reset_columns : (r : Record) (d e : Buffers) (s : Sentence) (c : ℕ) (a : Answer) → Holds r d s → TagsReset r d c a e → 4096 < c
       → a ≡ answer.Refused (refusal 14 c)

@@ -19,7 +19,7 @@ use Rattle.sentence.specs.Refusals.{refusal, verdict, reader_order, host_order, 
 use Rattle.sentence.proofs.Withheld.{formed_trimmed}
 use Rattle.sheet.specs.Layout.{Buffers, record_of, spell, Sheet}
 use Rattle.sheet.specs.Check.{is_sheet}
-use Rattle.sheet.proofs.Exact.{is_sheet}
+use Rattle.sheet.proofs.Exact.{is_sheet_lem}
 use Rattle.sheet.specs.declared.Record.{Record}
 use Rattle.sheet.specs.declared.Answer.{Answer}
 use Rattle.sheet.specs.declared.Answer.TheVariants as answer
@@ -69,7 +69,7 @@ unfolding line_order verdict NearNumber
 near_put r d w {out} h p =
     rw p.answer_is
     (if_cases NearNumber (not (is_sheet r d)) _ _ (λ _. omega arith)
-    (λ e. if_cases NearNumber false _ _ (λ _. omega arith) (λ _. if_cases NearNumber (ltb (length out) (length w)) _ _ (λ _. h (is_sheet r d (not-false _ e))) (λ _. tt))))
+    (λ e. if_cases NearNumber false _ _ (λ _. omega arith) (λ _. if_cases NearNumber (ltb (length out) (length w)) _ _ (λ _. h (is_sheet_lem r d (not-false _ e))) (λ _. tt))))
 
 pub near_written : (f : Form) (r : Record) (d : Buffers) {out out' : List ℕ} {a : Number} → Written f r d out a out' → NearNumber a
 near_written f r d w = near_put r d (line_of f r d) (λ h. written_small (spell r d) h.formed f) w

@@ -18,7 +18,7 @@ use Rattle.sentence.specs.Reading.{Annotated, read}
 use Rattle.sentence.specs.Refusals.{refusal, verdict, sheet_order, refusal_code}
 use Rattle.sheet.specs.Layout.{Buffers, spell}
 use Rattle.sheet.specs.Check.{is_sheet}
-use Rattle.sheet.proofs.Exact.{is_sheet}
+use Rattle.sheet.proofs.Exact.{is_sheet_lem}
 use Rattle.sheet.specs.declared.Record.{Record}
 use Rattle.sheet.specs.declared.Answer.{Answer}
 use Rattle.sheet.specs.declared.Answer.TheVariants as answer
@@ -120,7 +120,7 @@ pub withholds : (r : Record) (d : Buffers) (b e : ℕ) (out : List ℕ) (a : Num
 unfolding line_order verdict
 withholds r d b e out a w i q =
     let n = length (copy_of r d b e) in
-    let near = brought (not (is_sheet r d)) (no_range b e (count (spell r d))) (ltb (length out) n) b n (λ z. nearest_length b e (is_sheet r d (not-false _ z))) in
+    let near = brought (not (is_sheet r d)) (no_range b e (count (spell r d))) (ltb (length out) n) b n (λ z. nearest_length b e (is_sheet_lem r d (not-false _ z))) in
     record { answer_is = q ∙ ap number_code (i ∙ ap nearest_in w.answer_is ∙ near); out_is = w.out_is }
 
 -- ---- the note key

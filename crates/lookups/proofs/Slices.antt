@@ -21,7 +21,7 @@ use Rattle.sheet.specs.declared.Slice.TheVariants as slice
 use Rattle.sheet.specs.Layout.{Buffers, Holds, spell}
 use Rattle.sheet.specs.Check.{is_sheet}
 use Rattle.sheet.proofs.Held.{length_starts}
-use Rattle.sheet.proofs.Exact.{is_sheet}
+use Rattle.sheet.proofs.Exact.{is_sheet_lem}
 use Rattle.sheet.proofs.Look.{start_is, number_is, bounds, bytes_before, bytes_more, text_stretch, pad_at, cell_stretch, cell_inside, cell_next, cell_fits, cell_in_row, cell_at, passed}
 use Rattle.lookups.specs.Answers.{start_at, str_to_char_pos_of, surface_slice, surface_at, cell, cell_start, tag_slice, tag_at}
 use Rattle.lookups.proofs.Laws.{found_at, start_sized}
@@ -91,7 +91,7 @@ unfolding surface_at
 surface_within r d b e a p q f g =
     let s = spell r d in
     let k = passed slice.Refused (slice.Bytes p q) (apart p q) (sheet_order (not (is_sheet r d)) (leb e b || ltb (count s) e) b false 0) (surface_slice s b e) (sym f ∙ g) in
-    let h = is_sheet r d (not-false _ k.0.0) in
+    let h = is_sheet_lem r d (not-false _ k.0.0) in
     let o = neither (leb e b) (ltb (count s) e) k.0.1.0 in
     let x : start_at s b ≡ p = cc k.1 in
     let y : start_at s e ≡ q = cc k.1 in
@@ -104,7 +104,7 @@ tag_within r d row column a p q f g =
     let s = spell r d in
     let t = tag_slice (cell_start (rows s) row column) (cell s row column) in
     let k = passed slice.Refused (slice.Bytes p q) (apart p q) (sheet_order (not (is_sheet r d)) (leb (count s) row || leb s.columns column) row false 0) t (sym f ∙ g) in
-    let h = is_sheet r d (not-false _ k.0.0) in
+    let h = is_sheet_lem r d (not-false _ k.0.0) in
     let o = neither (leb (count s) row) (leb s.columns column) k.0.1.0 in
     let z = tag_bounds (cell_start (rows s) row column) (cell s row column) p q k.1 in
     let i = (cell_here h row column (omega (arith, leb-false (count s) row o.0, bounds h)) (omega (arith, leb-false s.columns column o.1, bounds h))).0 in

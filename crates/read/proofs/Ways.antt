@@ -31,21 +31,21 @@ module _ (x : Result) (d : Buffers) (ok : Bool) (h : ok ≡ room_of (record { n 
       record { answer_is = rw l; buffers_are = rw l (same_self d) }
 
   -- where 15 is not given, the answer is the reader's
-  update_answer : not ok ≡ false → update_answer x d ≡ read_answer x d
+  update_answer_lem : not ok ≡ false → update_answer x d ≡ read_answer x d
   unfolding update_answer read_answer update_order verdict if◌then◌else◌
-  update_answer t = rw (lacking blank d ok _ blank_record h false t)
+  update_answer_lem t = rw (lacking blank d ok _ blank_record h false t)
 
-  update_leaves : not ok ≡ false → update_leaves x d ≡ reader_order (λ (r : Refusal). laid blank d) (lacks d) (λ (s : Sentence). laid s d) x
+  update_leaves_lem : not ok ≡ false → update_leaves x d ≡ reader_order (λ (r : Refusal). laid blank d) (lacks d) (λ (s : Sentence). laid s d) x
   unfolding update_leaves if◌then◌else◌
-  update_leaves t = rw (lacking blank d ok _ blank_record h false t)
+  update_leaves_lem t = rw (lacking blank d ok _ blank_record h false t)
 
 pub update_done : (x : Result) (d e : Buffers) (ok : Bool) (a : Answer) (r : Record) → ok ≡ room_of (record { n = 1; b = 1; columns = 0; cells = 0; g = 0 }) d → not ok ≡ false
     → ReadDoes x d a e → a ≡ answer.Sentence r → UpdateDoes x d (answer.Sentence r) e
 update_done x d e ok a r h t w i =
     let j : read_answer x d ≡ answer.Sentence r = sym w.answer_is ∙ i in
     record {
-      answer_is = sym j ∙ sym (update_answer x d ok h t);
-      buffers_are = rw (update_leaves x d ok h t, order_sentence x d r (laid blank d) j) w.buffers_are;
+      answer_is = sym j ∙ sym (update_answer_lem x d ok h t);
+      buffers_are = rw (update_leaves_lem x d ok h t, order_sentence x d r (laid blank d) j) w.buffers_are;
     }
 
 -- the one-blank sentence where the buffers have its room
@@ -62,6 +62,6 @@ update_refused x d e f ok a b q h t w i v =
     let j : read_answer x d ≡ answer.Refused q = sym w.answer_is ∙ i in
     let z : e ≡ d = same_is w.buffers_are ∙ order_refused x d q d j in
     record {
-      answer_is = sym j ∙ sym (update_answer x d ok h t);
-      buffers_are = rw (update_leaves x d ok h t, order_refused x d q (laid blank d) j) (default_same d f ok b h t (subst (λ (c : Buffers). DefaultSet c b f) z v));
+      answer_is = sym j ∙ sym (update_answer_lem x d ok h t);
+      buffers_are = rw (update_leaves_lem x d ok h t, order_refused x d q (laid blank d) j) (default_same d f ok b h t (subst (λ (c : Buffers). DefaultSet c b f) z v));
     }

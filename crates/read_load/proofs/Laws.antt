@@ -32,7 +32,7 @@ pub record Holding (x : Result) (r : Record) (e : Buffers) : Type 0 where
   pub s : Sentence
   pub reads : x ≡ sentence s
   pub holds : Holds r e s
-  pub is_sheet : is_sheet r e ≡ true
+  pub is_sheet_lem : is_sheet r e ≡ true
 
 pub holding : (f : Form) (x : List ℕ) (d e : Buffers) (r : Record) → read_answer (read f x) d ≡ answer.Sentence r → e ≡ read_leaves (read f x) d → Holding (read f x) r e
 unfolding read_answer read_leaves reader_order verdict lacks if◌then◌else◌
@@ -44,7 +44,7 @@ holding f x d e r = on (read f x) refl
     laid-down s false i l a b =
         let q : record_of s ≡ r = cc in
         let h : Holds r e s = rw (b, ← q) (laid_holds s d (read_formed f x s i).0 (not-false _ l)) in
-        record { s = s; reads = refl; holds = h; is_sheet = holds_is r e s h }
+        record { s = s; reads = refl; holds = h; is_sheet_lem = holds_is r e s h }
 
     on : (q : Result) → read f x ≡ q → read_answer q d ≡ answer.Sentence r → e ≡ read_leaves q d → Holding q r e
     on (sentence s) i a b = laid-down s (lacks d s) i refl a b

@@ -169,9 +169,9 @@ module _ (at : ℕ) (d e : List ℕ) where
   unfolding read_told
   behind_told got n b q h l k = rw q (behind h l k)
 
-pub write_told : (got : ℤ) (n : ℕ) (b : ℤ) {c : Call} {m : ℕ} → c ≡ write_told got n b → n ≤ m → c.moved ≤ m
+pub write_told_lem : (got : ℤ) (n : ℕ) (b : ℤ) {c : Call} {m : ℕ} → c ≡ write_told got n b → n ≤ m → c.moved ≤ m
 unfolding write_told
-write_told got n b q h = rw q h
+write_told_lem got n b q h = rw q h
 
 -- what is kept is moved to the front, and there is room behind it
 pub kept_room : (s : Stand) (input : List ℕ) {m : Stand} {mid : List ℕ} → Kept s input m mid → s.to ≤ s.from + 4099 → s.to ≤ length input

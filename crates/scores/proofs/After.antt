@@ -9,7 +9,7 @@ use Rattle.sheet.specs.declared.Record.{Record}
 use Rattle.sheet.specs.declared.Answer.{Answer}
 use Rattle.sheet.specs.declared.Answer.TheVariants as answer
 use Rattle.sheet.specs.Layout.{Buffers, Holds, spell}
-use Rattle.sheet.proofs.Exact.{is_sheet}
+use Rattle.sheet.proofs.Exact.{is_sheet_lem}
 use Rattle.changes.proofs.Changed.{text_bare, rows_bare, no_tag_bytes, text_marked, reset_formed, marked_formed}
 use Rattle.changes.proofs.After.{room_kept, lays_holds}
 use Rattle.scores.specs.Scores.{Predicted, score_answer}
@@ -22,7 +22,7 @@ predicted_holds r d zs a e q l h =
     let ms = map decision zs in
     let t = marked ms s.cells in
     lays_holds _ (scored zs s) d a e q l h (λ p.
-    let k = is_sheet r d (not-false _ p.0) in (
+    let k = is_sheet_lem r d (not-false _ p.0) in (
       reset_formed 0 (record { cells = t; columns = s.columns }) (omega arith) (marked_formed ms s k.formed),
       room_kept k (scored zs s) (text_bare t ∙ text_marked ms s.cells) (omega arith) (omega arith) (rw (rows_bare t, no_tag_bytes) (omega arith)),
     ))

@@ -238,11 +238,11 @@ module _ (S : Sentence) where
       rw z (sym (get_or-drop i (rows S) 0 []) ∙ ap (λ (l : List (List Tag)). get_or l 0 []) e)
 
   -- the token that ends with the character c and the row r
-  token_line : (b i : ℕ) (w : List ℕ) (c : ℕ) (r : List Tag) (v : List ℕ) (rs : List (List Tag))
+  token_line_lem : (b i : ℕ) (w : List ℕ) (c : ℕ) (r : List Tag) (v : List ℕ) (rs : List (List Tag))
       → drop b (text S) ≡ w ++ (c ∷ v) → drop i (rows S) ≡ r ∷ rs → b + length w ≡ i
       → write_token S (token b (i + 1)) ≡ escape tokenized w ++ (escape_as (kind tokenized c) c ++ write_tags tokenized (pad S.columns r))
   unfolding write_token escape
-  token_line b i w c r v rs e f g =
+  token_line_lem b i w c r v rs e f g =
       let k : length (w ++ (c ∷ [])) ≡ i + 1 - b = simp length-append (omega arith) in
       let t : take (i + 1 - b) (drop b (text S)) ≡ w ++ (c ∷ []) =
       ap (take (i + 1 - b)) (e ∙ sym (append_assoc w (c ∷ []) v)) ∙ take_at (w ++ (c ∷ [])) v (i + 1 - b) k in
@@ -258,7 +258,7 @@ module _ (S : Sentence) where
   line_from : (u : Cells) (b i : ℕ) (w : List ℕ) → Whole u → Stands b i w u
       → joined (map (write_token S) (tokens true b (i + 1) (marks_of u))) ≡ escape tokenized w ++ plainly S.columns u
   unfolding tokens marks_of text_of rows_of plainly escape
-  line_from (final c r) b i w h s = joined_one _ ∙ token_line b i w c r [] [] s.chars s.rows_are s.place
+  line_from (final c r) b i w h s = joined_one _ ∙ token_line_lem b i w c r [] [] s.chars s.rows_are s.place
   line_from (cell c r none u) b i w h s =
       line_from u b (i + 1) (w ++ (c ∷ [])) h.1 (record {
         chars = s.chars ∙ sym (append_assoc w (c ∷ []) (text_of u));
@@ -268,7 +268,7 @@ module _ (S : Sentence) where
   line_from (cell c r word u) b i w h s =
       joined_cons _ _ (tokens_some u (i + 1) (i + 1 + 1) h)
       ∙ rw (
-        token_line b i w c r (text_of u) (rows_of u) s.chars s.rows_are s.place,
+        token_line_lem b i w c r (text_of u) (rows_of u) s.chars s.rows_are s.place,
         line_from u (i + 1) (i + 1) [] h (record { chars = after b i w c (text_of u) s.chars s.place; rows_are = more_rows i r (rows_of u) s.rows_are; place = omega arith }),
       ) (simp append_assoc)
   line_from (cell c r unknown u) b i w h s = absurd h

@@ -36,12 +36,12 @@ marks_are (suc (suc zero) ∷ ms) e = rw (marks_are ms e)
 marks_are (suc (suc (suc m)) ∷ ms) e =
     let k = ((and-eq-true_iff (leb (suc (suc (suc m))) 2) (are_marks ms)).0 e).0 in absurd (omega (arith, leb-true))
 
-are_marks : (ms : List Mark) → are_marks (map code ms) ≡ true
+are_marks_lem : (ms : List Mark) → are_marks (map code ms) ≡ true
 unfolding are_marks code
-are_marks [] = refl
-are_marks (none ∷ ms) = are_marks ms
-are_marks (word ∷ ms) = are_marks ms
-are_marks (unknown ∷ ms) = are_marks ms
+are_marks_lem [] = refl
+are_marks_lem (none ∷ ms) = are_marks_lem ms
+are_marks_lem (word ∷ ms) = are_marks_lem ms
+are_marks_lem (unknown ∷ ms) = are_marks_lem ms
 
 -- ---- cells
 -- the cells from byte g of s on, with their starts and lengths
@@ -80,14 +80,14 @@ cells_are s x g (b ∷ bs) (l ∷ ls) k =
     rw (take-append-le l (drop g s) x i, drop-append-le l (drop g s) x i, drop-drop)
     (cells_more s g b l bs ls _ (eqb-true b g a) v (plain_is _ p) (cells_are s x (g + l) bs ls rest))
 
-are_cells : (s : List ℕ) (g : ℕ) (ts : List Tag) → All (All Char) ts → drop g s ≡ bytes_of ts → g + row_bytes ts ≡ length s → are_cells s g (cell_starts g ts) (map size ts) ≡ true
+are_cells_lem : (s : List ℕ) (g : ℕ) (ts : List Tag) → All (All Char) ts → drop g s ≡ bytes_of ts → g + row_bytes ts ≡ length s → are_cells s g (cell_starts g ts) (map size ts) ≡ true
 unfolding are_cells cells_to is_cell cell_starts bytes_of row_bytes
-are_cells s g [] a e h = eq-eqb g (length s) (omega arith)
-are_cells s g (t ∷ ts) a e h =
+are_cells_lem s g [] a e h = eq-eqb g (length s) (omega arith)
+are_cells_lem s g (t ∷ ts) a e h =
     let c = ap (take (size t)) e ∙ take_at (encodes t) (bytes_of ts) _ (length_encodes t) in
     let d = sym (drop-drop (size t) g s) ∙ ap (drop (size t)) e ∙ drop_at (encodes t) (bytes_of ts) _ (length_encodes t) in
     rw (eq-eqb g g refl, le-leb (g + size t) (length s) (omega arith), c, is_plain_lem t a.0)
-    (are_cells s (g + size t) ts a.1 d (omega arith))
+    (are_cells_lem s (g + size t) ts a.1 d (omega arith))
 
 -- ---- rows
 -- k rows of n cells each
@@ -208,11 +208,11 @@ module _ (r : Record) (d : Buffers) (s : Sentence) (h : Holds r d s) where
       let ts = cells_of s.columns (rows s) in
       let e = bytes_same s.columns (rows s) in
       rw ((tag_bytes_held h).is, ← e, (cell_starts_held h).is, (cell_lengths_held h).is)
-      (are_cells (bytes_of ts) 0 ts (cells_chars_held h) refl (omega (arith, length_bytes_of ts)))
+      (are_cells_lem (bytes_of ts) 0 ts (cells_chars_held h) refl (omega (arith, length_bytes_of ts)))
 
   pub holds_is : is_sheet r d ≡ true
   unfolding is_sheet is_laid
-  holds_is = rw (limits_hold, room_holds, text_holds, (boundaries_held h).is, are_marks (marks s), cells_hold)
+  holds_is = rw (limits_hold, room_holds, text_holds, (boundaries_held h).is, are_marks_lem (marks s), cells_hold)
 
 -- where the test is false, no sentence is held
 pub no_sheet : (r : Record) (d : Buffers) → is_sheet r d ≡ false → (s : Sentence) → Holds r d s → ⊥
@@ -304,9 +304,9 @@ how_many_cells : (r : Record) (d : Buffers) (ts : List Tag) → Limits r → Roo
 how_many_cells r d ts l m e = omega (arith, length_cell_starts 0 ts, ap length e, length-take r.cells d.cell_starts_buf, m.room.cell_starts_is, l.cells_are)
 
 -- where the test is true, the buffers hold what they spell
-pub is_sheet : (r : Record) (d : Buffers) → is_sheet r d ≡ true → Sheet r d
+pub is_sheet_lem : (r : Record) (d : Buffers) → is_sheet r d ≡ true → Sheet r d
 unfolding is_sheet is_laid spell
-is_sheet r d e =
+is_sheet_lem r d e =
     let ((l, m), ((t, b), g)) = simp and-eq-true_iff at e in
     let z = limits_are r l in
     let o = room_is r d l m in

@@ -11,7 +11,7 @@ use Rattle.utf8.proofs.Codec.{length_encodes, scalars_encodes}
 use Rattle.sentence.specs.Sentence.{Tag, Sentence, text, marks, rows, listed, Char, Row}
 use Rattle.sheet.specs.declared.Record.{Record}
 use Rattle.sheet.specs.Layout.{Buffers, record_of, tags_of, bytes_of, Holds, spell}
-use Rattle.sheet.specs.Listed.{row_ends_of, tag_ends, slices_to, Lists, spell_listed}
+use Rattle.sheet.specs.Listed.{row_ends_of, tag_ends_of, slices_to, Lists, spell_listed}
 use Rattle.sentence.proofs.Cells.{length_rows}
 use Rattle.sheet.proofs.Held.{marks_back, cells_back, n_held, text_held, boundaries_held, text_chars_held, rows_held, spelled}
 
@@ -20,8 +20,8 @@ unfolding row_ends_of
 length_row_ends k [] = refl
 length_row_ends k (r ∷ rs) = omega (arith, length_row_ends (k + length r) rs)
 
-length_tag_ends : (g : ℕ) (ts : List Tag) → length (tag_ends g ts) ≡ length ts
-unfolding tag_ends
+length_tag_ends : (g : ℕ) (ts : List Tag) → length (tag_ends_of g ts) ≡ length ts
+unfolding tag_ends_of
 length_tag_ends g [] = refl
 length_tag_ends g (t ∷ ts) = omega (arith, length_tag_ends (g + size t) ts)
 
@@ -37,8 +37,8 @@ rows_back k (r ∷ rs) =
     let e : length r ≡ k + length r - k = omega arith in
     rw (take_at r (tags_of rs) _ e, drop_at r (tags_of rs) _ e, rows_back (k + length r) rs)
 
-tags_back : (g : ℕ) (ts : List Tag) (x : List ℕ) → All (All Char) ts → map scalars (slices_to g (tag_ends g ts) (bytes_of ts ++ x)) ≡ ts
-unfolding tag_ends bytes_of slices_to
+tags_back : (g : ℕ) (ts : List Tag) (x : List ℕ) → All (All Char) ts → map scalars (slices_to g (tag_ends_of g ts) (bytes_of ts ++ x)) ≡ ts
+unfolding tag_ends_of bytes_of slices_to
 tags_back g [] x h = refl
 tags_back g (t ∷ ts) x h =
     let e : length (encodes t) ≡ g + size t - g = omega (arith, length_encodes t) in
@@ -53,7 +53,7 @@ module _ (r : Record) (d : Buffers) (s : Sentence) (w e g : List ℕ) (h : Holds
   row_ends : take r.n w ≡ row_ends_of 0 (rows s)
   row_ends = let f : r.n ≡ length (row_ends_of 0 (rows s)) = n_held h ∙ sym (length_row_ends 0 (rows s) ∙ length_rows s.cells) in rw f l.row_ends_at
 
-  tag_ends : take (listed (rows s)) e ≡ tag_ends 0 (tags_of (rows s))
+  tag_ends : take (listed (rows s)) e ≡ tag_ends_of 0 (tags_of (rows s))
   tag_ends = let f = length_tag_ends 0 (tags_of (rows s)) ∙ length_tags_of (rows s) in rw (← f) l.tag_ends_at
 
   tags : map scalars (slices_to 0 (take (listed (rows s)) e) g) ≡ tags_of (rows s)

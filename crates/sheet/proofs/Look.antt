@@ -24,7 +24,7 @@ use Rattle.sentence.proofs.Trips.{pad_length}
 use Rattle.sheet.specs.declared.Record.{Record}
 use Rattle.sheet.specs.Layout.{Buffers, takes, AtLeast, cells_of, cell_starts, bytes_of, Holds, Sheet, mark_of}
 use Rattle.sheet.specs.Check.{is_sheet}
-use Rattle.sheet.proofs.Exact.{is_sheet}
+use Rattle.sheet.proofs.Exact.{is_sheet_lem}
 use Rattle.sheet.proofs.Eights.{every, one}
 use Rattle.sentence.proofs.Cells.{length_marks, length_rows}
 use Rattle.sheet.proofs.Held.{prefixes_held, Prefix, length_bytes_of, row_bytes_append, bytes_joined, bytes_same, cells_bytes, cells_long, n_held, b_held, columns_held, cells_held, g_held, text_held, boundaries_held, char_pos_held, byte_pos_held, cell_starts_held, cell_lengths_held, tag_bytes_held, text_chars_held, rows_held}
@@ -399,7 +399,7 @@ module _ {A : Type 0} (refuse : Refusal → A) (g good out : Bool) (first : ℕ)
 
 -- what a check that was passed says
 pub checked : (r : Record) (d : Buffers) (g : Bool) → g ≡ is_sheet r d → not g ≡ false → Sheet r d
-checked r d g e h = is_sheet r d (sym e ∙ not-false g h)
+checked r d g e h = is_sheet_lem r d (sym e ∙ not-false g h)
 
 -- the checks that an answer passed which is no refusal
 abbrev pub Passed : List Check → Type 0

@@ -11,9 +11,9 @@ row_ends_of k [] = []
 row_ends_of k (r ∷ rs) = (k + length r) ∷ row_ends_of (k + length r) rs
 
 -- where each tag ends among the tag bytes, after g of them
-unfoldable pub tag_ends : ℕ → List Tag → List ℕ
-tag_ends g [] = []
-tag_ends g (t ∷ ts) = (g + size t) ∷ tag_ends (g + size t) ts
+unfoldable pub tag_ends_of : ℕ → List Tag → List ℕ
+tag_ends_of g [] = []
+tag_ends_of g (t ∷ ts) = (g + size t) ∷ tag_ends_of (g + size t) ts
 
 -- a list cut at ends that are counted from g on
 unfoldable pub slices_to : {A : Type 0} → ℕ → List ℕ → List A → List (List A)
@@ -23,7 +23,7 @@ slices_to g (e ∷ es) d = take (e - g) d ∷ slices_to e es (drop (e - g) d)
 -- lists that start with the ends of a sentence's rows, the ends of its tags and their bytes
 pub record Lists (s : Sentence) (row_ends tag_ends tag_bytes : List ℕ) : Type 0 where
   pub row_ends_at : Front (row_ends_of 0 (rows s)) row_ends
-  pub tag_ends_at : Front (tag_ends 0 (tags_of (rows s))) tag_ends
+  pub tag_ends_at : Front (tag_ends_of 0 (tags_of (rows s))) tag_ends
   pub tag_bytes_at : Front (bytes_of (tags_of (rows s))) tag_bytes
 
 -- the sentence that they spell, of n characters and k listed tags, beside the text and the boundaries

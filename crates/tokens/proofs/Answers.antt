@@ -15,7 +15,7 @@ use Rattle.sheet.specs.declared.Record.{Record}
 use Rattle.sheet.specs.declared.Number.TheVariants.{Is as IsNumber, Refused as RefusedNumber}
 use Rattle.sheet.specs.Layout.{Buffers, spell}
 use Rattle.sheet.specs.Check.{is_sheet}
-use Rattle.sheet.proofs.Exact.{is_sheet}
+use Rattle.sheet.proofs.Exact.{is_sheet_lem}
 use Rattle.tokens.specs.declared.Token.{Token as Span}
 use Rattle.tokens.specs.declared.Step.{Step}
 use Rattle.tokens.specs.declared.Step.TheVariants.{Serves, Done}
@@ -36,17 +36,17 @@ module _ (r : Record) (d : Buffers) (b : Bool) (tested : b ≡ is_sheet r d) whe
 
   -- from here on it is a sheet
   pub is_bounded : b ≡ true → Bounded r.n d.boundaries_buf
-  is_bounded q = bounded_held (is_sheet r d (sym tested ∙ q))
+  is_bounded q = bounded_held (is_sheet_lem r d (sym tested ∙ q))
 
   pub next_served : b ≡ true → (p : ℕ) (a : Step) → a ≡ step_of (next_token_of (marks_in r.n d.boundaries_buf) r.n p) → Is a ≡ next_of r d p
   unfolding next_of verdict if◌then◌else◌
   next_served q p a e =
-      let h = is_sheet r d (sym tested ∙ q) in
+      let h = is_sheet_lem r d (sym tested ∙ q) in
       let z = ap (λ ms. next_token_of ms r.n p) (marks_held h) ∙ ap (λ n. next_token_of (marks (spell r d)) n p) (n_held h) in
       rw (sym tested ∙ q) (ap Is (e ∙ ap step_of z))
 
   counted : b ≡ true → (k : ℕ) → k ≡ length (tokens_from (marks_in r.n d.boundaries_buf) 0) → k ≡ length (tokens_of r d)
-  counted q k e = rw (marks_held (is_sheet r d (sym tested ∙ q))) at e
+  counted q k e = rw (marks_held (is_sheet_lem r d (sym tested ∙ q))) at e
 
   pub count_12 : b ≡ true → (room k : ℕ) {u : Refusal} → u ≡ refusal 12 k → k ≡ length (tokens_from (marks_in r.n d.boundaries_buf) 0) → room < k → RefusedNumber u ≡ count_of r d room
   unfolding count_of list_order verdict if◌then◌else◌

@@ -15,7 +15,7 @@ use Rattle.sentence.proofs.Tokens.{onward, onward_start, done_onward}
 use Rattle.sheet.specs.declared.Record.{Record}
 use Rattle.sheet.specs.Layout.{Buffers}
 use Rattle.sheet.specs.Check.{is_sheet}
-use Rattle.sheet.proofs.Exact.{is_sheet}
+use Rattle.sheet.proofs.Exact.{is_sheet_lem}
 use Rattle.tokens.specs.declared.Token.{Token as Span}
 use Rattle.tokens.specs.Steps.{span_of, step_of, span_in, marks_in, Bounded, tokens_of, list_order, count_of, filled_of, Listed}
 use Rattle.tokens.proofs.Cursor.{marks_long, Following, following, Counted, counted_start, counted_next}
@@ -69,7 +69,7 @@ module _ (r : Record) (d : Buffers) (l : List Span) where
   all_of = length (tokens_from (marks_in r.n d.boundaries_buf) 0)
 
   as_held : is_sheet r d ≡ true → all_of ≡ length (tokens_of r d)
-  as_held e = ap (λ ms. length (tokens_from ms 0)) (marks_held (is_sheet r d e))
+  as_held e = ap (λ ms. length (tokens_from ms 0)) (marks_held (is_sheet_lem r d e))
 
   pub fills : Fills r d l (filled_of (count_of r d (length l)))
   unfolding count_of list_order verdict if◌then◌else◌
@@ -83,7 +83,7 @@ module _ (r : Record) (d : Buffers) (l : List Span) where
       on true true e f = rw (e, f) none
       on true false e f = rw (e, f) (record {
         fits = ltb-false _ _ f;
-        sheet = λ h. bounded_held (is_sheet r d e);
+        sheet = λ h. bounded_held (is_sheet_lem r d e);
         all = λ h. sym (as_held e);
       })
 
@@ -100,4 +100,4 @@ module _ (r : Record) (d : Buffers) (l : List Span) where
           let h : length (tokens_of r d) ≤ length l = ltb-false _ _ f in
           let o : length (onward (marks_in r.n d.boundaries_buf) p) ≡ 0 = omega (arith, w.counted.sum, as_held e) in
           let u : map span_of (onward (marks_in r.n d.boundaries_buf) p) ≡ [] = ap (map span_of) (empty (onward (marks_in r.n d.boundaries_buf) p) o) in
-          rw (e, f, ← (marks_held (is_sheet r d e))) (fill_done w.fill u refl (omega (arith, length-map (tokens_from (marks_in r.n d.boundaries_buf) 0) span_of, as_held e)))
+          rw (e, f, ← (marks_held (is_sheet_lem r d e))) (fill_done w.fill u refl (omega (arith, length-map (tokens_from (marks_in r.n d.boundaries_buf) 0) span_of, as_held e)))

@@ -16,7 +16,7 @@ use Rattle.sheet.specs.declared.Number.{Number}
 use Rattle.sheet.specs.declared.Number.TheVariants.{Is, Refused}
 use Rattle.sheet.specs.Layout.{Buffers, spell, Sheet}
 use Rattle.sheet.specs.Check.{is_sheet}
-use Rattle.sheet.proofs.Exact.{holds_is, is_sheet}
+use Rattle.sheet.proofs.Exact.{holds_is, is_sheet_lem}
 use Rattle.sheet.proofs.Look.{passed}
 use Rattle.write_escape.specs.Wrote.{Lined}
 use Rattle.write_items.specs.Items.{short_of}
@@ -68,7 +68,7 @@ module _ (r : Record) (d : Buffers) (outside : Bool) (first : ℕ) {w out : List
       let k = passed Refused (Is n) (λ x z. apart x z) (line_order r d outside first w (length out)) (Is (length w)) (sym p.answer_is ∙ e) in
       let l : length w ≡ n = cc k.1 in
       record {
-        sheet = is_sheet r d (not-false _ k.0.0);
+        sheet = is_sheet_lem r d (not-false _ k.0.0);
         length_is = sym l;
         room = omega (arith, ltb-false (length out) (length w) k.0.1.1.0);
         out_is = p.out_is ∙ rw (k.0.0, k.0.1.0, k.0.1.1.0);

@@ -138,8 +138,8 @@ module _ {r : Record} {d : Buffers} {s : Sentence} (h : Holds r d s) where
   row_line_lem f n i l = rw (row_is i l, ← (encodes_pad n (get_or (rows s) i [])), encodes_tags)
 
   -- the token from b up to e
-  pub token_line : (b e : ℕ) → b ≤ e → e ≤ r.n → 1 ≤ e
+  pub token_line_lem : (b e : ℕ) → b ≤ e → e ≤ r.n → 1 ≤ e
       → token_line r.columns d.text_buf d.char_pos_buf d.cell_starts_buf d.cell_lengths_buf d.tag_bytes_buf b e ≡ encodes (write_token s (token b e))
   unfolding write_token
-  token_line b e k l m =
+  token_line_lem b e k l m =
       rw (text_is b e k l, row_line_lem tokenized r.columns (e - 1) (omega arith), columns_held h, ← (encodes_escape tokenized (surface s b e)), encodes_append)

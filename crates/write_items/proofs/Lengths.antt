@@ -61,8 +61,8 @@ tags_flat f ss ls d k (suc n) h =
 
 -- ---- a row of m cells, whose bytes are those from x up to y
 module _ (ss ls d : List ℕ) (m i : ℕ) {x y : ℕ} (p : x ≡ bytes_to ss ls (i * m)) (q : y ≡ bytes_to ss ls (i * m + m)) (h : RowLies ss ls d m i) where
-  pub row_bytes : (x ≤ y) × (y ≤ length d)
-  row_bytes = (omega (arith, bytes_rise ss ls (i * m) m h.cells), omega (arith, first ss ls d (i * m + m) (i * m + m) (omega arith) h))
+  pub row_bytes_lem : (x ≤ y) × (y ≤ length d)
+  row_bytes_lem = (omega (arith, bytes_rise ss ls (i * m) m h.cells), omega (arith, first ss ls d (i * m + m) (i * m + m) (omega arith) h))
 
   -- it takes a slash for each tag, those bytes, and a slash for each column behind the last tag
   pub row_sum : (f : Form) (n : ℕ) → length (row_line f n (row_at ss ls d m i)) ≡ count_at ls m i + (n - count_at ls m i) + length (escape f (drop x (take y d)))

@@ -23,7 +23,7 @@ use Rattle.sheet.specs.Layout.{Buffers, spell, Sheet}
 use Rattle.sheet.proofs.Held.{columns_held}
 use Rattle.sheet.proofs.Look.{bounds}
 use Rattle.write_items.specs.Items.{count_at, bytes_to, RowLies, text_at, char_line, most_of}
-use Rattle.write_items.proofs.Lengths.{join, text_long, row_bytes, char_sum}
+use Rattle.write_items.proofs.Lengths.{join, text_long, row_bytes_lem, char_sum}
 use Rattle.write_items.proofs.Room.{limited, most_few, row_most}
 use Rattle.write_partial.specs.Line.{shown_of, Spread, Rows, Narrow, stretch_of, covered_of, before_of, rest_of, slashes_of}
 use Rattle.write_partial.proofs.Stretches.{pad_none}
@@ -77,7 +77,7 @@ module _ (ss ls ds : List ℕ) (m : ℕ) where
   bytes_one : (i : ℕ) → RowLies ss ls ds m i → Bytes i (i + 1)
   bytes_one i h =
       let e : (i + 1) * m ≡ i * m + m = omega arith in
-      let p = row_bytes ss ls ds m i refl refl h in
+      let p = row_bytes_lem ss ls ds m i refl refl h in
       record { rises = rw e p.0; within = rw e p.1 }
 
   -- of one stretch and another behind it

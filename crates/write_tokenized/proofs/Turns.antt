@@ -21,7 +21,7 @@ use Rattle.tokens.proofs.Cursor.{following, of_done, marks_long}
 use Rattle.tokens.proofs.Held.{marks_held, bounded_held}
 use Rattle.write_escape.specs.Wrote.{Wrote, Lined, lined, Writing, write_start, write_item, write_fits, write_done}
 use Rattle.write_items.specs.Items.{RowLies, TextLies, token_line}
-use Rattle.write_items.proofs.Held.{text_lies, row_lies, token_line}
+use Rattle.write_items.proofs.Held.{text_lies, row_lies, token_line_lem}
 use Rattle.write_items.proofs.Room.{limited, most_few}
 use Rattle.write_tokenized.specs.Gaps.{gap, spaced}
 use Rattle.write_tokenized.proofs.Most.{encodes_gap, line_spaced, line_most}
@@ -56,7 +56,7 @@ module _ {r : Record} {d : Buffers} (h : Sheet r d) (some : Bool) (p : ℕ) wher
   left_next : {b e : ℕ} → Comes r d p b e → left_from (spell r d) some p ≡ gap some ++ (token_in r d b e ++ left_from (spell r d) true e)
   unfolding left_from spaced
   left_next {b} {e} f =
-      rw (token_line h b e (omega arith) f.within (omega arith), f.rest, encodes_append (gap some), encodes_gap some, encodes_append (write_token (spell r d) (token b e)))
+      rw (token_line_lem h b e (omega arith) f.within (omega arith), f.rest, encodes_append (gap some), encodes_gap some, encodes_append (write_token (spell r d) (token b e)))
 
   -- none is left where the step is done
   left_none : {a : Step} {q : ℕ} → a ≡ step_of (next_token_of (marks_in r.n d.boundaries_buf) r.n p) → a ≡ Done q → left_from (spell r d) some p ≡ []

@@ -1,7 +1,7 @@
 -- `write_items::unchecked::row_len` meets its contract.
 use native.Mathlib.Omega.{arith}
 use Rattle.write_items.proofs.Cells.{fewer, count_fits}
-use Rattle.write_items.proofs.Lengths.{row_bytes, row_room, row_long}
+use Rattle.write_items.proofs.Lengths.{row_bytes_lem, row_room, row_long}
 use Rattle.write_items.proofs.unchecked.row_len.Statement.{statement}
 use Rattle.write_items.proofs.unchecked.row_len.Tie as tie
 
@@ -18,7 +18,7 @@ bytes-to-requires-2 : tie.Need-bytes-to-requires-2
 bytes-to-requires-2 c κs = c.before.before.before.before.requires.0.cells
 
 escaped-len-requires : tie.Need-escaped-len-requires
-escaped-len-requires c κs = row_bytes _ _ c.before.before.before.before.before.args.tag_bytes.now c.before.before.before.before.before.args.columns c.before.before.before.before.before.args.i c.before.bytes-to.ensures c.bytes-to2.ensures c.before.before.before.before.before.requires.0
+escaped-len-requires c κs = row_bytes_lem _ _ c.before.before.before.before.before.args.tag_bytes.now c.before.before.before.before.before.args.columns c.before.before.before.before.before.args.i c.before.bytes-to.ensures c.bytes-to2.ensures c.before.before.before.before.before.requires.0
 
 add-result : tie.Need-overflow-add-result
 add-result c = row_room _ _ _ c.before.before.before.before.before.before.args.columns c.before.before.before.before.before.before.args.i c.before.before.bytes-to.ensures c.before.bytes-to2.ensures c.before.before.before.before.before.before.requires.0 c.escaped-len.ensures c.before.before.before.before.before.before.requires.1
