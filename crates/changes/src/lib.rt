@@ -28,8 +28,8 @@ pub fn set_default(
     cell_lengths: &mut [u16],
     tag_bytes: &mut [u8],
 ) -> Answer
-    ensures { DefaultSet (lent_before text types boundaries char_pos byte_pos cell_starts cell_lengths tag_bytes) result
-        (lent_after text types boundaries char_pos byte_pos cell_starts cell_lengths tag_bytes) }
+    ensures { DefaultSet (lent_before text.old types.old boundaries.old char_pos.old byte_pos.old cell_starts.old cell_lengths.old tag_bytes.old) result
+        (lent_after text.new types.new boundaries.new char_pos.new byte_pos.new cell_starts.new cell_lengths.new tag_bytes.new) }
 {
     if !blank_fits(text.len(), types.len(), char_pos.len(), byte_pos.len()) {
         return Answer::Refused(NO_BLANK_ROOM);
@@ -63,8 +63,8 @@ pub fn set_boundary(
     i: usize,
     value: u8,
 ) -> Answer
-    ensures { BoundarySet r (lent_before text types boundaries char_pos byte_pos cell_starts cell_lengths tag_bytes) i value result
-        (with_boundaries boundaries.new (lent_before text types boundaries char_pos byte_pos cell_starts cell_lengths tag_bytes)) }
+    ensures { BoundarySet r (lent_before text.now types.now boundaries.old char_pos.now byte_pos.now cell_starts.now cell_lengths.now tag_bytes.now) i value result
+        (with_boundaries boundaries.new (lent_before text.now types.now boundaries.old char_pos.now byte_pos.now cell_starts.now cell_lengths.now tag_bytes.now)) }
 {
     if !sheet::check(
         r,
@@ -110,9 +110,9 @@ pub fn reset_tags(
     tag_bytes: &[u8],
     c: usize,
 ) -> Answer
-    ensures { TagsReset r (lent_before text types boundaries char_pos byte_pos cell_starts cell_lengths tag_bytes) c result (with_cells
+    ensures { TagsReset r (lent_before text.now types.now boundaries.now char_pos.now byte_pos.now cell_starts.old cell_lengths.old tag_bytes.now) c result (with_cells
         cell_starts.new cell_lengths.new
-        (lent_before text types boundaries char_pos byte_pos cell_starts cell_lengths tag_bytes)) }
+        (lent_before text.now types.now boundaries.now char_pos.now byte_pos.now cell_starts.old cell_lengths.old tag_bytes.now)) }
 {
     if !sheet::check(
         r,

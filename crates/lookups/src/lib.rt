@@ -24,8 +24,8 @@ pub fn char_to_str_pos(
     tag_bytes: &[u8],
     i: usize,
 ) -> Number
-    ensures { result ≡ char_to_str_pos_of (is_sheet r (lent_before text types boundaries char_pos byte_pos cell_starts cell_lengths tag_bytes))
-        (spell r (lent_before text types boundaries char_pos byte_pos cell_starts cell_lengths tag_bytes)) i }
+    ensures { result ≡ char_to_str_pos_of (is_sheet r (lent_before text.now types.now boundaries.now char_pos.now byte_pos.now cell_starts.now cell_lengths.now tag_bytes.now))
+        (spell r (lent_before text.now types.now boundaries.now char_pos.now byte_pos.now cell_starts.now cell_lengths.now tag_bytes.now)) i }
 {
     if !sheet::check(
         r,
@@ -71,8 +71,8 @@ pub fn str_to_char_pos(
     tag_bytes: &[u8],
     p: usize,
 ) -> Number
-    ensures { result ≡ str_to_char_pos_of (is_sheet r (lent_before text types boundaries char_pos byte_pos cell_starts cell_lengths tag_bytes))
-        (spell r (lent_before text types boundaries char_pos byte_pos cell_starts cell_lengths tag_bytes)) p }
+    ensures { result ≡ str_to_char_pos_of (is_sheet r (lent_before text.now types.now boundaries.now char_pos.now byte_pos.now cell_starts.now cell_lengths.now tag_bytes.now))
+        (spell r (lent_before text.now types.now boundaries.now char_pos.now byte_pos.now cell_starts.now cell_lengths.now tag_bytes.now)) p }
 {
     if !sheet::check(
         r,
@@ -117,8 +117,8 @@ pub fn boundary(
     tag_bytes: &[u8],
     i: usize,
 ) -> Number
-    ensures { result ≡ boundary_at (is_sheet r (lent_before text types boundaries char_pos byte_pos cell_starts cell_lengths tag_bytes))
-        (spell r (lent_before text types boundaries char_pos byte_pos cell_starts cell_lengths tag_bytes)) i }
+    ensures { result ≡ boundary_at (is_sheet r (lent_before text.now types.now boundaries.now char_pos.now byte_pos.now cell_starts.now cell_lengths.now tag_bytes.now))
+        (spell r (lent_before text.now types.now boundaries.now char_pos.now byte_pos.now cell_starts.now cell_lengths.now tag_bytes.now)) i }
 {
     if !sheet::check(
         r,
@@ -165,8 +165,8 @@ pub fn tag(
     row: usize,
     column: usize,
 ) -> Slice
-    ensures { result ≡ tag_at (is_sheet r (lent_before text types boundaries char_pos byte_pos cell_starts cell_lengths tag_bytes))
-        (spell r (lent_before text types boundaries char_pos byte_pos cell_starts cell_lengths tag_bytes)) row column }
+    ensures { result ≡ tag_at (is_sheet r (lent_before text.now types.now boundaries.now char_pos.now byte_pos.now cell_starts.now cell_lengths.now tag_bytes.now))
+        (spell r (lent_before text.now types.now boundaries.now char_pos.now byte_pos.now cell_starts.now cell_lengths.now tag_bytes.now)) row column }
 {
     if !sheet::check(
         r,
@@ -213,8 +213,8 @@ pub fn surface(
     start: usize,
     end: usize,
 ) -> Slice
-    ensures { result ≡ surface_at (is_sheet r (lent_before text types boundaries char_pos byte_pos cell_starts cell_lengths tag_bytes))
-        (spell r (lent_before text types boundaries char_pos byte_pos cell_starts cell_lengths tag_bytes)) start end }
+    ensures { result ≡ surface_at (is_sheet r (lent_before text.now types.now boundaries.now char_pos.now byte_pos.now cell_starts.now cell_lengths.now tag_bytes.now))
+        (spell r (lent_before text.now types.now boundaries.now char_pos.now byte_pos.now cell_starts.now cell_lengths.now tag_bytes.now)) start end }
 {
     if !sheet::check(
         r,

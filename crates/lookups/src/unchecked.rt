@@ -20,8 +20,8 @@ pub fn char_to_str_pos(
     tag_bytes: &[u8],
     i: usize,
 ) -> usize
-    requires { Sheet r (lent text types boundaries char_pos byte_pos cell_starts cell_lengths tag_bytes) × (i ≤ r.n) }
-    ensures { result ≡ start_at (spell r (lent_before text types boundaries char_pos byte_pos cell_starts cell_lengths tag_bytes)) i }
+    requires { Sheet r (lent text.now types.now boundaries.now char_pos.now byte_pos.now cell_starts.now cell_lengths.now tag_bytes.now) × (i ≤ r.n) }
+    ensures { result ≡ start_at (spell r (lent_before text.now types.now boundaries.now char_pos.now byte_pos.now cell_starts.now cell_lengths.now tag_bytes.now)) i }
 {
     char_pos[i] as usize
 }
@@ -39,8 +39,8 @@ pub fn str_to_char_pos(
     tag_bytes: &[u8],
     p: usize,
 ) -> Number
-    requires { Sheet r (lent text types boundaries char_pos byte_pos cell_starts cell_lengths tag_bytes) × (p ≤ r.b) }
-    ensures { result ≡ str_to_char_pos_of true (spell r (lent_before text types boundaries char_pos byte_pos cell_starts cell_lengths tag_bytes)) p }
+    requires { Sheet r (lent text.now types.now boundaries.now char_pos.now byte_pos.now cell_starts.now cell_lengths.now tag_bytes.now) × (p ≤ r.b) }
+    ensures { result ≡ str_to_char_pos_of true (spell r (lent_before text.now types.now boundaries.now char_pos.now byte_pos.now cell_starts.now cell_lengths.now tag_bytes.now)) p }
 {
     let i = byte_pos[p] as usize;
     if char_pos[i] as usize == p {
@@ -62,8 +62,8 @@ pub fn boundary(
     tag_bytes: &[u8],
     i: usize,
 ) -> usize
-    requires { Sheet r (lent text types boundaries char_pos byte_pos cell_starts cell_lengths tag_bytes) × (i < r.n - 1) }
-    ensures { result ≡ mark_at (spell r (lent_before text types boundaries char_pos byte_pos cell_starts cell_lengths tag_bytes)) i }
+    requires { Sheet r (lent text.now types.now boundaries.now char_pos.now byte_pos.now cell_starts.now cell_lengths.now tag_bytes.now) × (i < r.n - 1) }
+    ensures { result ≡ mark_at (spell r (lent_before text.now types.now boundaries.now char_pos.now byte_pos.now cell_starts.now cell_lengths.now tag_bytes.now)) i }
 {
     boundaries[i] as usize
 }
@@ -82,12 +82,12 @@ pub fn tag(
     row: usize,
     column: usize,
 ) -> Slice
-    requires { Sheet r (lent text types boundaries char_pos byte_pos cell_starts cell_lengths tag_bytes)
+    requires { Sheet r (lent text.now types.now boundaries.now char_pos.now byte_pos.now cell_starts.now cell_lengths.now tag_bytes.now)
         × (row < r.n)
         × (column < r.columns) }
     ensures { result ≡ tag_slice
-        (cell_start (rows (spell r (lent_before text types boundaries char_pos byte_pos cell_starts cell_lengths tag_bytes))) row column)
-        (cell (spell r (lent_before text types boundaries char_pos byte_pos cell_starts cell_lengths tag_bytes)) row column) }
+        (cell_start (rows (spell r (lent_before text.now types.now boundaries.now char_pos.now byte_pos.now cell_starts.now cell_lengths.now tag_bytes.now))) row column)
+        (cell (spell r (lent_before text.now types.now boundaries.now char_pos.now byte_pos.now cell_starts.now cell_lengths.now tag_bytes.now)) row column) }
 {
     let j = row * r.columns + column;
     let start = cell_starts[j] as usize;
@@ -115,8 +115,8 @@ pub fn surface(
     start: usize,
     end: usize,
 ) -> Slice
-    requires { Sheet r (lent text types boundaries char_pos byte_pos cell_starts cell_lengths tag_bytes) × (start ≤ r.n) × (end ≤ r.n) }
-    ensures { result ≡ surface_slice (spell r (lent_before text types boundaries char_pos byte_pos cell_starts cell_lengths tag_bytes)) start
+    requires { Sheet r (lent text.now types.now boundaries.now char_pos.now byte_pos.now cell_starts.now cell_lengths.now tag_bytes.now) × (start ≤ r.n) × (end ≤ r.n) }
+    ensures { result ≡ surface_slice (spell r (lent_before text.now types.now boundaries.now char_pos.now byte_pos.now cell_starts.now cell_lengths.now tag_bytes.now)) start
         end }
 {
     Slice::Bytes {

@@ -24,8 +24,8 @@ fn update(
     tag_bytes: &mut [u8],
 ) -> Answer
     ensures { UpdateDoes (read form line.now)
-        (lent_before text types boundaries char_pos byte_pos cell_starts cell_lengths tag_bytes) result
-        (lent_after text types boundaries char_pos byte_pos cell_starts cell_lengths tag_bytes) }
+        (lent_before text.old types.old boundaries.old char_pos.old byte_pos.old cell_starts.old cell_lengths.old tag_bytes.old) result
+        (lent_after text.new types.new boundaries.new char_pos.new byte_pos.new cell_starts.new cell_lengths.new tag_bytes.new) }
 {
     if !read_load::unchecked::has_room(
         Record {
@@ -88,8 +88,8 @@ pub fn from_raw(
     tag_bytes: &mut [u8],
 ) -> Answer
     ensures { ReadDoes (read raw line.now)
-        (lent_before text types boundaries char_pos byte_pos cell_starts cell_lengths tag_bytes) result
-        (lent_after text types boundaries char_pos byte_pos cell_starts cell_lengths tag_bytes) }
+        (lent_before text.old types.old boundaries.old char_pos.old byte_pos.old cell_starts.old cell_lengths.old tag_bytes.old) result
+        (lent_after text.new types.new boundaries.new char_pos.new byte_pos.new cell_starts.new cell_lengths.new tag_bytes.new) }
 {
     read_load::load(
         Form::Raw,
@@ -118,8 +118,8 @@ pub fn from_tokenized(
     tag_bytes: &mut [u8],
 ) -> Answer
     ensures { ReadDoes (read tokenized line.now)
-        (lent_before text types boundaries char_pos byte_pos cell_starts cell_lengths tag_bytes) result
-        (lent_after text types boundaries char_pos byte_pos cell_starts cell_lengths tag_bytes) }
+        (lent_before text.old types.old boundaries.old char_pos.old byte_pos.old cell_starts.old cell_lengths.old tag_bytes.old) result
+        (lent_after text.new types.new boundaries.new char_pos.new byte_pos.new cell_starts.new cell_lengths.new tag_bytes.new) }
 {
     read_load::load(
         Form::Tokenized,
@@ -148,8 +148,8 @@ pub fn from_partial_annotation(
     tag_bytes: &mut [u8],
 ) -> Answer
     ensures { ReadDoes (read partial line.now)
-        (lent_before text types boundaries char_pos byte_pos cell_starts cell_lengths tag_bytes) result
-        (lent_after text types boundaries char_pos byte_pos cell_starts cell_lengths tag_bytes) }
+        (lent_before text.old types.old boundaries.old char_pos.old byte_pos.old cell_starts.old cell_lengths.old tag_bytes.old) result
+        (lent_after text.new types.new boundaries.new char_pos.new byte_pos.new cell_starts.new cell_lengths.new tag_bytes.new) }
 {
     read_load::load(
         Form::Partial,
@@ -178,8 +178,8 @@ pub fn update_raw(
     tag_bytes: &mut [u8],
 ) -> Answer
     ensures { UpdateDoes (read raw line.now)
-        (lent_before text types boundaries char_pos byte_pos cell_starts cell_lengths tag_bytes) result
-        (lent_after text types boundaries char_pos byte_pos cell_starts cell_lengths tag_bytes) }
+        (lent_before text.old types.old boundaries.old char_pos.old byte_pos.old cell_starts.old cell_lengths.old tag_bytes.old) result
+        (lent_after text.new types.new boundaries.new char_pos.new byte_pos.new cell_starts.new cell_lengths.new tag_bytes.new) }
 {
     update(
         Form::Raw,
@@ -207,8 +207,8 @@ pub fn update_tokenized(
     tag_bytes: &mut [u8],
 ) -> Answer
     ensures { UpdateDoes (read tokenized line.now)
-        (lent_before text types boundaries char_pos byte_pos cell_starts cell_lengths tag_bytes) result
-        (lent_after text types boundaries char_pos byte_pos cell_starts cell_lengths tag_bytes) }
+        (lent_before text.old types.old boundaries.old char_pos.old byte_pos.old cell_starts.old cell_lengths.old tag_bytes.old) result
+        (lent_after text.new types.new boundaries.new char_pos.new byte_pos.new cell_starts.new cell_lengths.new tag_bytes.new) }
 {
     update(
         Form::Tokenized,
@@ -236,8 +236,8 @@ pub fn update_partial_annotation(
     tag_bytes: &mut [u8],
 ) -> Answer
     ensures { UpdateDoes (read partial line.now)
-        (lent_before text types boundaries char_pos byte_pos cell_starts cell_lengths tag_bytes) result
-        (lent_after text types boundaries char_pos byte_pos cell_starts cell_lengths tag_bytes) }
+        (lent_before text.old types.old boundaries.old char_pos.old byte_pos.old cell_starts.old cell_lengths.old tag_bytes.old) result
+        (lent_after text.new types.new boundaries.new char_pos.new byte_pos.new cell_starts.new cell_lengths.new tag_bytes.new) }
 {
     update(
         Form::Partial,

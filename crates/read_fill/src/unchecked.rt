@@ -23,10 +23,10 @@ pub fn fill(
     tag_bytes: &mut [u8],
 )
     requires { Fits (read form line.now) columns
-        (lent text types boundaries char_pos byte_pos cell_starts cell_lengths tag_bytes) }
+        (lent text.old types.old boundaries.old char_pos.old byte_pos.old cell_starts.old cell_lengths.old tag_bytes.old) }
     ensures { Same
-        (filled (read form line.now) (lent_before text types boundaries char_pos byte_pos cell_starts cell_lengths tag_bytes))
-        (lent_after text types boundaries char_pos byte_pos cell_starts cell_lengths tag_bytes) }
+        (filled (read form line.now) (lent_before text.old types.old boundaries.old char_pos.old byte_pos.old cell_starts.old cell_lengths.old tag_bytes.old))
+        (lent_after text.new types.new boundaries.new char_pos.new byte_pos.new cell_starts.new cell_lengths.new tag_bytes.new) }
 {
     let tables = Tables::new();
     let mut state = State::new();

@@ -24,8 +24,8 @@ pub fn load(
     tag_bytes: &mut [u8],
 ) -> Answer
     ensures { ReadDoes (read form line.now)
-        (lent_before text types boundaries char_pos byte_pos cell_starts cell_lengths tag_bytes) result
-        (lent_after text types boundaries char_pos byte_pos cell_starts cell_lengths tag_bytes) }
+        (lent_before text.old types.old boundaries.old char_pos.old byte_pos.old cell_starts.old cell_lengths.old tag_bytes.old) result
+        (lent_after text.new types.new boundaries.new char_pos.new byte_pos.new cell_starts.new cell_lengths.new tag_bytes.new) }
 {
     match read_scan::scan(form, line) {
         Answer::Refused(refusal) => Answer::Refused(refusal),

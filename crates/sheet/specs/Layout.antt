@@ -6,8 +6,6 @@ use Rattle.sentence.specs.Sentence.{Tag, Mark, none, word, unknown, code, Cells,
 use Rattle.sentence.specs.Sentence.{byte_positions, cut, pad, tag_bytes, Formed}
 use Rattle.sheet.specs.declared.Record.{Record}
 use Rattle.sheet.specs.Eight.{Eight, pick, eight, each, pairwise, all, Each}
-use Rattle.std.specs.Borrow.{Bor}
-use denote.Triple.Both.{Both}
 
 -- the contents of the eight buffers
 abbrev pub Buffers : Type 0
@@ -16,28 +14,15 @@ Buffers = Eight (List ℕ)
 abbrev pub buffers : List ℕ → List ℕ → List ℕ → List ℕ → List ℕ → List ℕ → List ℕ → List ℕ → Buffers
 buffers = eight
 
--- a buffer that is lent to a call, by what it held before, and by what it holds after
-abbrev pub LentBefore : Type 0 → Type 0
-LentBefore E = Both (Bor (List ℕ)) E
-
-abbrev pub LentAfter : Type 0 → Type 0
-LentAfter E = Both E (Bor (List ℕ))
-
 -- the eight buffers that are lent: before a call, after it, and where a call asks something of them
-abbrev pub lent_before :
-    {E₀ E₁ E₂ E₃ E₄ E₅ E₆ E₇ : Type 0} → LentBefore E₀ → LentBefore E₁ → LentBefore E₂ → LentBefore E₃ → LentBefore E₄ → LentBefore E₅
-    → LentBefore E₆ → LentBefore E₇ → Buffers
-lent_before t y m c b w e g =
-    buffers t.entry.now y.entry.now m.entry.now c.entry.now b.entry.now w.entry.now e.entry.now g.entry.now
+abbrev pub lent_before : List ℕ → List ℕ → List ℕ → List ℕ → List ℕ → List ℕ → List ℕ → List ℕ → Buffers
+lent_before = buffers
 
-abbrev pub lent_after :
-    {E₀ E₁ E₂ E₃ E₄ E₅ E₆ E₇ : Type 0} → LentAfter E₀ → LentAfter E₁ → LentAfter E₂ → LentAfter E₃ → LentAfter E₄ → LentAfter E₅
-    → LentAfter E₆ → LentAfter E₇ → Buffers
-lent_after t y m c b w e g = buffers t.exit.now y.exit.now m.exit.now c.exit.now b.exit.now w.exit.now e.exit.now g.exit.now
+abbrev pub lent_after : List ℕ → List ℕ → List ℕ → List ℕ → List ℕ → List ℕ → List ℕ → List ℕ → Buffers
+lent_after = buffers
 
-abbrev pub lent :
-    Bor (List ℕ) → Bor (List ℕ) → Bor (List ℕ) → Bor (List ℕ) → Bor (List ℕ) → Bor (List ℕ) → Bor (List ℕ) → Bor (List ℕ) → Buffers
-lent t y m c b w e g = buffers t.now y.now m.now c.now b.now w.now e.now g.now
+abbrev pub lent : List ℕ → List ℕ → List ℕ → List ℕ → List ℕ → List ℕ → List ℕ → List ℕ → Buffers
+lent = buffers
 
 -- the buffers with other boundaries, and with other cells
 abbrev pub with_boundaries : List ℕ → Buffers → Buffers

@@ -61,7 +61,7 @@ fn fits(
     cell_lengths: &[u16],
     tag_bytes: &[u8],
 ) -> bool
-    ensures { result ≡ (in_limits r && room_for r (lent_before text types boundaries char_pos byte_pos cell_starts cell_lengths tag_bytes)) }
+    ensures { result ≡ (in_limits r && room_for r (lent_before text.now types.now boundaries.now char_pos.now byte_pos.now cell_starts.now cell_lengths.now tag_bytes.now)) }
 {
     in_limits(r)
         & ((r.b <= text.len())
@@ -86,8 +86,8 @@ fn is_laid(
     cell_lengths: &[u16],
     tag_bytes: &[u8],
 ) -> bool
-    requires { Room r (lent text types boundaries char_pos byte_pos cell_starts cell_lengths tag_bytes) }
-    ensures { result ≡ is_laid r (lent_before text types boundaries char_pos byte_pos cell_starts cell_lengths tag_bytes) }
+    requires { Room r (lent text.now types.now boundaries.now char_pos.now byte_pos.now cell_starts.now cell_lengths.now tag_bytes.now) }
+    ensures { result ≡ is_laid r (lent_before text.now types.now boundaries.now char_pos.now byte_pos.now cell_starts.now cell_lengths.now tag_bytes.now) }
 {
     if !sheet_check::is_text(
         &text[..r.b],
@@ -120,7 +120,7 @@ pub fn check(
     cell_lengths: &[u16],
     tag_bytes: &[u8],
 ) -> bool
-    ensures { result ≡ is_sheet r (lent_before text types boundaries char_pos byte_pos cell_starts cell_lengths tag_bytes) }
+    ensures { result ≡ is_sheet r (lent_before text.now types.now boundaries.now char_pos.now byte_pos.now cell_starts.now cell_lengths.now tag_bytes.now) }
 {
     if !fits(
         r,

@@ -27,7 +27,7 @@ pub fn filled(
     room: usize,
 ) -> Outcome
     requires { room ≤ 64 }
-    ensures { result.answer ≡ count_of r (lent_before text types boundaries char_pos byte_pos cell_starts cell_lengths tag_bytes) room }
+    ensures { result.answer ≡ count_of r (lent_before text.now types.now boundaries.now char_pos.now byte_pos.now cell_starts.now cell_lengths.now tag_bytes.now) room }
 {
     let mut list = [Token { start: 1, end: 0 }; 64];
     let answer = tokens::token_list(

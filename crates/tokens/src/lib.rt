@@ -44,7 +44,7 @@ pub fn next_token(
     tag_bytes: &[u8],
     p: usize,
 ) -> Next
-    ensures { result ≡ next_of r (lent_before text types boundaries char_pos byte_pos cell_starts cell_lengths tag_bytes) p }
+    ensures { result ≡ next_of r (lent_before text.now types.now boundaries.now char_pos.now byte_pos.now cell_starts.now cell_lengths.now tag_bytes.now) p }
 {
     if !sheet::check(
         r,
@@ -75,7 +75,7 @@ fn needed(
     tag_bytes: &[u8],
     room: usize,
 ) -> Number
-    ensures { result ≡ count_of r (lent_before text types boundaries char_pos byte_pos cell_starts cell_lengths tag_bytes) room }
+    ensures { result ≡ count_of r (lent_before text.now types.now boundaries.now char_pos.now byte_pos.now cell_starts.now cell_lengths.now tag_bytes.now) room }
 {
     if !sheet::check(
         r,
@@ -120,7 +120,7 @@ pub fn token_list(
     tag_bytes: &[u8],
     list: &mut [Token],
 ) -> Number
-    ensures { Listed r (lent_before text types boundaries char_pos byte_pos cell_starts cell_lengths tag_bytes) list.old result
+    ensures { Listed r (lent_before text.now types.now boundaries.now char_pos.now byte_pos.now cell_starts.now cell_lengths.now tag_bytes.now) list.old result
         list.new }
 {
     let answer = needed(

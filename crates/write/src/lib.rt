@@ -60,7 +60,7 @@ pub fn write_tokenized_text(
     tag_bytes: &[u8],
     out: &mut [u8],
 ) -> Number
-    ensures { Written tokenized r (lent_before text types boundaries char_pos byte_pos cell_starts cell_lengths tag_bytes)
+    ensures { Written tokenized r (lent_before text.now types.now boundaries.now char_pos.now byte_pos.now cell_starts.now cell_lengths.now tag_bytes.now)
         out.old result out.new }
 {
     if !sheet::check(
@@ -119,7 +119,7 @@ pub fn write_partial_annotation_text(
     tag_bytes: &[u8],
     out: &mut [u8],
 ) -> Number
-    ensures { Written partial r (lent_before text types boundaries char_pos byte_pos cell_starts cell_lengths tag_bytes) out.old
+    ensures { Written partial r (lent_before text.now types.now boundaries.now char_pos.now byte_pos.now cell_starts.now cell_lengths.now tag_bytes.now) out.old
         result out.new }
 {
     if !sheet::check(
@@ -181,7 +181,7 @@ pub fn write_withheld_text(
     end: usize,
     out: &mut [u8],
 ) -> Number
-    ensures { Withholds r (lent_before text types boundaries char_pos byte_pos cell_starts cell_lengths tag_bytes) start end
+    ensures { Withholds r (lent_before text.now types.now boundaries.now char_pos.now byte_pos.now cell_starts.now cell_lengths.now tag_bytes.now) start end
         out.old result out.new }
 {
     if !sheet::check(
@@ -262,7 +262,7 @@ pub fn note_key(
     tag_bytes: &[u8],
     out: &mut [u8],
 ) -> Number
-    ensures { Keyed r (lent_before text types boundaries char_pos byte_pos cell_starts cell_lengths tag_bytes) out.old result
+    ensures { Keyed r (lent_before text.now types.now boundaries.now char_pos.now byte_pos.now cell_starts.now cell_lengths.now tag_bytes.now) out.old result
         out.new }
 {
     write_withheld_text(

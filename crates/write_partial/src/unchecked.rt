@@ -80,9 +80,9 @@ pub fn columns_shown(
     start: usize,
     end: usize,
 ) -> usize
-    requires { Sheet r (lent text types boundaries char_pos byte_pos cell_starts cell_lengths tag_bytes) }
+    requires { Sheet r (lent text.now types.now boundaries.now char_pos.now byte_pos.now cell_starts.now cell_lengths.now tag_bytes.now) }
     ensures { result ≡ widest
-        (hidden start end 0 (spell r (lent_before text types boundaries char_pos byte_pos cell_starts cell_lengths tag_bytes)).cells) }
+        (hidden start end 0 (spell r (lent_before text.now types.now boundaries.now char_pos.now byte_pos.now cell_starts.now cell_lengths.now tag_bytes.now)).cells) }
 {
     let mut columns = 0;
     let mut i = 0;
@@ -226,10 +226,10 @@ fn shown_len(
     start: usize,
     end: usize,
 ) -> usize
-    requires { Sheet r (lent text types boundaries char_pos byte_pos cell_starts cell_lengths tag_bytes)
-        × Asked r (lent text types boundaries char_pos byte_pos cell_starts cell_lengths tag_bytes) columns start end }
+    requires { Sheet r (lent text.now types.now boundaries.now char_pos.now byte_pos.now cell_starts.now cell_lengths.now tag_bytes.now)
+        × Asked r (lent text.now types.now boundaries.now char_pos.now byte_pos.now cell_starts.now cell_lengths.now tag_bytes.now) columns start end }
     ensures { result ≡ length (written partial
-        (shown_of columns start end (spell r (lent_before text types boundaries char_pos byte_pos cell_starts cell_lengths tag_bytes)))) }
+        (shown_of columns start end (spell r (lent_before text.now types.now boundaries.now char_pos.now byte_pos.now cell_starts.now cell_lengths.now tag_bytes.now)))) }
 {
     let last = r.n - 1;
     if start == end {
@@ -292,10 +292,10 @@ pub fn shown_short(
     end: usize,
     room: usize,
 ) -> usize
-    requires { Sheet r (lent text types boundaries char_pos byte_pos cell_starts cell_lengths tag_bytes)
-        × Asked r (lent text types boundaries char_pos byte_pos cell_starts cell_lengths tag_bytes) columns start end }
+    requires { Sheet r (lent text.now types.now boundaries.now char_pos.now byte_pos.now cell_starts.now cell_lengths.now tag_bytes.now)
+        × Asked r (lent text.now types.now boundaries.now char_pos.now byte_pos.now cell_starts.now cell_lengths.now tag_bytes.now) columns start end }
     ensures { result ≡ short_of room (length (written partial (shown_of columns start end
-        (spell r (lent_before text types boundaries char_pos byte_pos cell_starts cell_lengths tag_bytes))))) }
+        (spell r (lent_before text.now types.now boundaries.now char_pos.now byte_pos.now cell_starts.now cell_lengths.now tag_bytes.now))))) }
 {
     if most(r) <= room {
         return 0;
@@ -534,14 +534,14 @@ pub fn shown_into(
     end: usize,
     out: &mut [u8],
 ) -> usize
-    requires { Sheet r (lent text types boundaries char_pos byte_pos cell_starts cell_lengths tag_bytes)
+    requires { Sheet r (lent text.now types.now boundaries.now char_pos.now byte_pos.now cell_starts.now cell_lengths.now tag_bytes.now)
         × (start ≤ end)
         × (end ≤ r.n)
         × (length (written partial
-        (shown_of columns start end (spell r (lent text types boundaries char_pos byte_pos cell_starts cell_lengths tag_bytes))))
+        (shown_of columns start end (spell r (lent text.now types.now boundaries.now char_pos.now byte_pos.now cell_starts.now cell_lengths.now tag_bytes.now))))
         ≤ length out.old) }
     ensures { Lined (written partial
-        (shown_of columns start end (spell r (lent_before text types boundaries char_pos byte_pos cell_starts cell_lengths tag_bytes))))
+        (shown_of columns start end (spell r (lent_before text.now types.now boundaries.now char_pos.now byte_pos.now cell_starts.now cell_lengths.now tag_bytes.now))))
         out.old out.new result }
 {
     let last = r.n - 1;
@@ -607,9 +607,9 @@ pub fn partial_short(
     tag_bytes: &[u8],
     room: usize,
 ) -> usize
-    requires { Sheet r (lent text types boundaries char_pos byte_pos cell_starts cell_lengths tag_bytes) }
+    requires { Sheet r (lent text.now types.now boundaries.now char_pos.now byte_pos.now cell_starts.now cell_lengths.now tag_bytes.now) }
     ensures { result ≡ short_of room
-        (length (written partial (spell r (lent_before text types boundaries char_pos byte_pos cell_starts cell_lengths tag_bytes)))) }
+        (length (written partial (spell r (lent_before text.now types.now boundaries.now char_pos.now byte_pos.now cell_starts.now cell_lengths.now tag_bytes.now)))) }
 {
     shown_short(
         r,
@@ -641,10 +641,10 @@ pub fn partial_into(
     tag_bytes: &[u8],
     out: &mut [u8],
 ) -> usize
-    requires { Sheet r (lent text types boundaries char_pos byte_pos cell_starts cell_lengths tag_bytes)
-        × (length (written partial (spell r (lent text types boundaries char_pos byte_pos cell_starts cell_lengths tag_bytes)))
+    requires { Sheet r (lent text.now types.now boundaries.now char_pos.now byte_pos.now cell_starts.now cell_lengths.now tag_bytes.now)
+        × (length (written partial (spell r (lent text.now types.now boundaries.now char_pos.now byte_pos.now cell_starts.now cell_lengths.now tag_bytes.now)))
         ≤ length out.old) }
-    ensures { Lined (written partial (spell r (lent_before text types boundaries char_pos byte_pos cell_starts cell_lengths tag_bytes)))
+    ensures { Lined (written partial (spell r (lent_before text.now types.now boundaries.now char_pos.now byte_pos.now cell_starts.now cell_lengths.now tag_bytes.now)))
         out.old out.new result }
 {
     shown_into(

@@ -46,9 +46,9 @@ pub fn tokenized_len(
     cell_lengths: &[u16],
     tag_bytes: &[u8],
 ) -> usize
-    requires { Sheet r (lent text types boundaries char_pos byte_pos cell_starts cell_lengths tag_bytes) }
+    requires { Sheet r (lent text.now types.now boundaries.now char_pos.now byte_pos.now cell_starts.now cell_lengths.now tag_bytes.now) }
     ensures { result ≡ length
-        (written tokenized (spell r (lent_before text types boundaries char_pos byte_pos cell_starts cell_lengths tag_bytes))) }
+        (written tokenized (spell r (lent_before text.now types.now boundaries.now char_pos.now byte_pos.now cell_starts.now cell_lengths.now tag_bytes.now))) }
 {
     let mut sum = 0;
     let mut p = 0;
@@ -92,9 +92,9 @@ pub fn tokenized_short(
     tag_bytes: &[u8],
     room: usize,
 ) -> usize
-    requires { Sheet r (lent text types boundaries char_pos byte_pos cell_starts cell_lengths tag_bytes) }
+    requires { Sheet r (lent text.now types.now boundaries.now char_pos.now byte_pos.now cell_starts.now cell_lengths.now tag_bytes.now) }
     ensures { result ≡ short_of room
-        (length (written tokenized (spell r (lent_before text types boundaries char_pos byte_pos cell_starts cell_lengths tag_bytes)))) }
+        (length (written tokenized (spell r (lent_before text.now types.now boundaries.now char_pos.now byte_pos.now cell_starts.now cell_lengths.now tag_bytes.now)))) }
 {
     if most(r) <= room {
         return 0;
@@ -129,10 +129,10 @@ pub fn tokenized_into(
     tag_bytes: &[u8],
     out: &mut [u8],
 ) -> usize
-    requires { Sheet r (lent text types boundaries char_pos byte_pos cell_starts cell_lengths tag_bytes)
-        × (length (written tokenized (spell r (lent text types boundaries char_pos byte_pos cell_starts cell_lengths tag_bytes)))
+    requires { Sheet r (lent text.now types.now boundaries.now char_pos.now byte_pos.now cell_starts.now cell_lengths.now tag_bytes.now)
+        × (length (written tokenized (spell r (lent text.now types.now boundaries.now char_pos.now byte_pos.now cell_starts.now cell_lengths.now tag_bytes.now)))
         ≤ length out.old) }
-    ensures { Lined (written tokenized (spell r (lent_before text types boundaries char_pos byte_pos cell_starts cell_lengths tag_bytes)))
+    ensures { Lined (written tokenized (spell r (lent_before text.now types.now boundaries.now char_pos.now byte_pos.now cell_starts.now cell_lengths.now tag_bytes.now)))
         out.old out.new result }
 {
     let mut n = 0;

@@ -28,7 +28,7 @@ pub fn through(
 ) -> Converted
     requires { Annotated writer
         × Scanned (read reader line.now) r
-        × Wide (length line.now) r.cells (lent text types boundaries char_pos byte_pos cell_starts cell_lengths tag_bytes) }
+        × Wide (length line.now) r.cells (lent text.old types.old boundaries.old char_pos.old byte_pos.old cell_starts.old cell_lengths.old tag_bytes.old) }
     ensures { Converts (λ (c : Converted). c)
         (between false false reader writer (length out.old) line.now) 0 out.old result
         out.new }

@@ -25,9 +25,9 @@ fn tokenized_as(
     tag_bytes: &[u8],
     out: &mut [u8],
 ) -> Converted
-    requires { Sheet r (lent text types boundaries char_pos byte_pos cell_starts cell_lengths tag_bytes) }
+    requires { Sheet r (lent text.now types.now boundaries.now char_pos.now byte_pos.now cell_starts.now cell_lengths.now tag_bytes.now) }
     ensures { Converts (λ (c : Converted). c) (writing tokenized (length out.old)
-        (spell r (lent_before text types boundaries char_pos byte_pos cell_starts cell_lengths tag_bytes))) 0 out.old result
+        (spell r (lent_before text.now types.now boundaries.now char_pos.now byte_pos.now cell_starts.now cell_lengths.now tag_bytes.now))) 0 out.old result
         out.new }
 {
     let needed = tokenized_short(
@@ -73,9 +73,9 @@ fn partial_as(
     tag_bytes: &[u8],
     out: &mut [u8],
 ) -> Converted
-    requires { Sheet r (lent text types boundaries char_pos byte_pos cell_starts cell_lengths tag_bytes) }
+    requires { Sheet r (lent text.now types.now boundaries.now char_pos.now byte_pos.now cell_starts.now cell_lengths.now tag_bytes.now) }
     ensures { Converts (λ (c : Converted). c) (writing partial (length out.old)
-        (spell r (lent_before text types boundaries char_pos byte_pos cell_starts cell_lengths tag_bytes))) 0 out.old result
+        (spell r (lent_before text.now types.now boundaries.now char_pos.now byte_pos.now cell_starts.now cell_lengths.now tag_bytes.now))) 0 out.old result
         out.new }
 {
     let needed = partial_short(
@@ -122,9 +122,9 @@ pub fn write_as(
     tag_bytes: &[u8],
     out: &mut [u8],
 ) -> Converted
-    requires { Annotated writer × Sheet r (lent text types boundaries char_pos byte_pos cell_starts cell_lengths tag_bytes) }
+    requires { Annotated writer × Sheet r (lent text.now types.now boundaries.now char_pos.now byte_pos.now cell_starts.now cell_lengths.now tag_bytes.now) }
     ensures { Converts (λ (c : Converted). c) (writing writer (length out.old)
-        (spell r (lent_before text types boundaries char_pos byte_pos cell_starts cell_lengths tag_bytes))) 0 out.old result
+        (spell r (lent_before text.now types.now boundaries.now char_pos.now byte_pos.now cell_starts.now cell_lengths.now tag_bytes.now))) 0 out.old result
         out.new }
 {
     match writer {

@@ -1,5 +1,4 @@
 -- `tokens::token_list` meets its contract: a walk of its MIR, by hand.
-
 -- It calls `needed`, `filled` and, in each turn, `token_from`, of which the proof knows only that they meet their contracts. The borrow of the list
 -- is opened once, before the loop, and closed once, after it. The loop's invariant is `Partway`, of the list in memory.
 use mathlib.Core.Path.{◌≡◌, refl, sym, ◌∙◌, ap, subst}
@@ -44,7 +43,6 @@ use denote.Steps.{only, owned, peeks, heard, nothing}
 use denote.Struct.Laws as LL
 use denote.Struct.Struct.{twices}
 use denote.Enum.Laws as EL
-use denote.Triple.Statement.{Contract, Triple}
 use denote.Triple.Call.{calls_at}
 use denote.Triple.Clauses.{ensured, lasts}
 use denote.Triple.Entry.{on_entry}
@@ -85,6 +83,7 @@ use Rattle.tokens.proofs.token_list.Statement as stated
 use Rattle.tokens.proofs.Bundles.{has, bare, lifetimes, parts, binds, parts_lifetimes, binds_lifetimes, free_all}
 use Rattle.tokens.proofs.token_list.Code as code
 use Rattle.tokens.proofs.token_list.Code.Mir as fn
+use Rattle.tokens.proofs.token_list.Goals as goal
 
 abbrev stayed : Stays (f.ended).signature.params (f.ended).kept
 stayed = (stay_none (λ _. R.the_row) yes, (stay_none_slice (0 ∷ []) tt (plain (λ _. u8)) yes, (stay_none_slice (1 ∷ []) tt (plain (λ _. u8)) yes, (stay_none_slice (2 ∷ []) tt (plain (λ _. u8)) yes, (stay_none_slice (3 ∷ []) tt (plain (λ _. u16)) yes, (stay_none_slice (4 ∷ []) tt (plain (λ _. u16)) yes, (stay_none_slice (5 ∷ []) tt (plain (λ _. u16)) yes, (stay_none_slice (6 ∷ []) tt (plain (λ _. u16)) yes, (stay_none_slice (7 ∷ []) tt (plain (λ _. u8)) yes, (stay_slice (8 ∷ []) tt (plain (λ _. Tok.the_row)), tt))))))))))
