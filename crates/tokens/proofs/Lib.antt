@@ -1,4 +1,3 @@
-pub mod Bundles
 pub mod Cursor
 pub mod Held
 pub mod Answers
