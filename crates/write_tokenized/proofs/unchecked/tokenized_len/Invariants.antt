@@ -1,0 +1,14 @@
+-- `write_tokenized::unchecked::tokenized_len` meets its contract. The invariant: with the tokens from the cursor on, the sum is the whole.
+use Prim.Native.Nat.{◌-◌}
+use native.Mathlib.Omega.{arith}
+use borrow.Author.Rules.{rules}
+use Rattle.sheet.specs.Layout.{buffers}
+use Rattle.write_tokenized.proofs.Turns.{Comes, comes, Summing, sum_start, sum-asks, sum-gap, sum-few, sum-next, sum_done}
+use Rattle.write_tokenized.proofs.unchecked.tokenized_len.Given as goal
+
+abbrev pub invariant-loop-t : goal.invariant-loop-t
+invariant-loop-t l =
+    Summing l.r (buffers l.text l.types l.boundaries l.char_pos l.byte_pos l.cell_starts l.cell_lengths l.tag_bytes) l.sum l.p l.some
+
+abbrev pub decreases-loop-t : goal.decreases-loop-t
+decreases-loop-t l = l.r.n - l.p
