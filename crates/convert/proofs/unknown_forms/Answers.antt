@@ -1,0 +1,8 @@
+-- `convert::unknown_forms` meets its contract.
+use Rattle.convert.specs.Convert.{unknown_forms}
+use borrow.Author.Rules.{rules}
+use Rattle.convert.proofs.unknown_forms.Goals as goal
+
+pub returns : goal.returns
+unfolding unknown_forms
+returns c = rw (c.no_reader.ensures, c.no_writer.ensures)
