@@ -4,12 +4,8 @@ use mir.Syntax.{w64}
 use mir.ValLaws.{to_z-of_z}
 use Rattle.respelling.proofs.Calls.{of_error}
 use Rattle.respelling.specs.Run.{read_told}
-use Rattle.respelling.proofs.unchecked.run.read_told.Statement.{statement}
-use Rattle.respelling.proofs.unchecked.run.read_told.Tie as tie
+use Rattle.respelling.proofs.unchecked.run.read_told.Goals as goal
 
-returns : tie.Need-returns
+pub returns : goal.returns
 unfolding read_told
 returns c = rw (to_z-of_z w64 c.args.got c.ranges.got, of_error c.args.error c.ranges.error) refl
-
-pub read-told-spec : {M : Type 1} → statement M
-read-told-spec = tie.close (tie.spec returns)

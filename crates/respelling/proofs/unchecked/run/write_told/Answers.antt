@@ -4,12 +4,8 @@ use mir.Syntax.{w64}
 use mir.ValLaws.{to_z-of_z}
 use Rattle.respelling.proofs.Calls.{of_error}
 use Rattle.respelling.specs.Run.{write_told}
-use Rattle.respelling.proofs.unchecked.run.write_told.Statement.{statement}
-use Rattle.respelling.proofs.unchecked.run.write_told.Tie as tie
+use Rattle.respelling.proofs.unchecked.run.write_told.Goals as goal
 
-returns : tie.Need-returns
+pub returns : goal.returns
 unfolding write_told
 returns c = rw (to_z-of_z w64 c.args.got c.ranges.got, of_error c.args.error c.ranges.error) refl
-
-pub write-told-spec : {M : Type 1} → statement M
-write-told-spec = tie.close (tie.spec returns)

@@ -1,0 +1,14 @@
+-- `respelling::unchecked::stream::respell` meets its contract.
+-- The invariant: what is used and written so far, with what is still to be done, is the whole turn.
+use Prim.Native.Nat.{◌-◌, ◌+◌, ◌≤◌}
+use native.Mathlib.Omega.{arith}
+use borrow.Author.Rules.{rules}
+use lib.ListN.{length}
+use Rattle.respelling.proofs.Turns.{Going, go_start, step_ends, go_done, go_more}
+use Rattle.respelling.proofs.unchecked.stream.respell.Given as goal
+
+abbrev pub invariant-loop-last : goal.invariant-loop-last
+invariant-loop-last l = Going l.last l.input l.initial.out l.out l.used l.wrote
+
+abbrev pub decreases-loop-last : goal.decreases-loop-last
+decreases-loop-last l = length l.input - l.used
