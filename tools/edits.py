@@ -34,21 +34,20 @@ def misfits(edit, crate):
     """What keeps an edit from being made, a line each; further pairs are looked for in what the earlier ones made."""
     path, old, pairs, texts, found = None, None, 0, {}, []
     for line in text_of(edit).split("\n"):
-        key, _, rest = line.partition(":")
-        rest = rest.removeprefix(" ")
-        if key == "file":
-            path = rest.strip()
+        if line.startswith("file: "):
+            path = line[len("file: ") :].strip()
             if not os.path.isfile(os.path.join(crate, path)):
                 return [f"there is no file {path}"]
-        elif key == "old":
-            old = rest
-        elif key == "new":
+        elif line.startswith("old: "):
+            old = line[len("old: ") :]
+        elif line.startswith("new:"):
+            new = line[len("new:") :].removeprefix(" ")
             if path is None or not old:
                 return found + ["a line 'new:' has no 'file:' or no 'old:' above it"]
             text = texts.get(path) or text_of(os.path.join(crate, path))
             if text.count(old) != 1:
                 found.append(f"{path} has this {text.count(old)} times, not once: {old.strip()}")
-            texts[path] = text.replace(old, rest)
+            texts[path] = text.replace(old, new)
             if texts[path] == text and text.count(old) == 1:
                 found.append(f"this changes nothing: {old.strip()}")
             old, pairs = None, pairs + 1
