@@ -11,5 +11,5 @@ pub use fields::{
     at_most, byte, field, find, first, item, listed, number, place, signed, within, within16,
 };
 pub use hex::{repeated, unhex};
-pub use lines::{Line, next_line};
+pub use lines::{Line, next_line, read_full};
 pub use sink::Sink;

@@ -1,17 +1,20 @@
 // Where an answer goes, byte by byte.
 use crate::fields::within;
+use itoa::Buffer;
+use std::io::{self, Stdout, Write};
 use std::num::{wrapping_add_u32, wrapping_add_usize};
 
 // How many bytes are held before they are written.
 const ROOM: usize = 16;
 
-// What is put is held and written some at a time; of a quiet one it is only counted: how many bytes, and their sum (from 5381, each
-// byte gives 33 times the sum plus the byte).
+// What is put is held and written some at a time; where there is no output it is only counted: how many bytes, and their sum (from 5381, each
+// byte gives 33 times the sum plus the byte). Once a write has failed, nothing more is written.
 #[derive(Drop)]
 pub struct Sink {
     pub count: usize,
     pub sum: u32,
-    quiet: bool,
+    output: Option<Stdout>,
+    failure: Option<io::Error>,
     held: [u8; ROOM],
     n: usize,
 }
@@ -32,60 +35,76 @@ fn wide(n: u16) -> u64 {
     n as u64
 }
 
+// Writes some bytes where there is an output and no write has failed, and answers the first failure.
+fn written(output: Option<Stdout>, failure: Option<io::Error>, bytes: &[u8]) -> Option<io::Error> {
+    if failure.is_some() {
+        return failure;
+    }
+    match output {
+        Some(mut to) => to.write_all(bytes).err(),
+        None => None,
+    }
+}
+
 impl Sink {
-    // Nothing yet; whether what is put is only counted.
-    fn empty(quiet: bool) -> Self {
+    // Nothing yet; where there is no output, what is put is only counted.
+    fn empty(output: Option<Stdout>) -> Self {
         Sink {
             count: 0,
             sum: 5381,
-            quiet: quiet,
+            output,
+            failure: None,
             held: [0; ROOM],
             n: 0,
         }
     }
 
     // Nothing yet, and what is put is written.
-    pub fn new() -> Self {
-        Sink::empty(false)
+    pub fn new(output: Stdout) -> Self {
+        Sink::empty(Some(output))
     }
 
     // Nothing yet, and what is put is only counted.
     pub fn quiet() -> Self {
-        Sink::empty(true)
+        Sink::empty(None)
     }
 
     // With one more byte counted.
-    fn counted(self, b: u8) -> Self {
-        let mut sink = self;
+    fn counted(mut self, b: u8) -> Self {
         let times = wrapping_add_u32(self.sum << 5, self.sum);
-        sink.count = wrapping_add_usize(self.count, 1);
-        sink.sum = wrapping_add_u32(times, b as u32);
-        sink
+        self.count = wrapping_add_usize(self.count, 1);
+        self.sum = wrapping_add_u32(times, b as u32);
+        self
     }
 
     // With one more byte held, where there is room.
-    fn with(self, b: u8) -> Self {
-        let mut sink = self;
+    fn with(mut self, b: u8) -> Self {
         let at = self.n;
         if at < ROOM {
-            sink.held[at] = b;
-            sink.n = at + 1;
+            self.held[at] = b;
+            self.n = at + 1;
         }
-        sink
+        self
     }
 
     // Writes what is held.
-    pub fn flush(self) -> Self {
-        let mut sink = self;
-        let held = self.held;
-        io::write_all(1, within(&held, 0, self.n));
-        sink.n = 0;
-        sink
+    pub fn flush(mut self) -> Self {
+        self.failure = written(self.output, self.failure, within(&self.held, 0, self.n));
+        self.n = 0;
+        self
+    }
+
+    // Writes what is held, and answers whether each write has gone well.
+    pub fn finish(self) -> io::Result<()> {
+        match self.flush().failure {
+            Some(e) => Err(e),
+            None => Ok(()),
+        }
     }
 
     // Puts a byte.
     pub fn put(self, b: u8) -> Self {
-        if self.quiet {
+        if self.output.is_none() {
             return self.counted(b);
         }
         if self.n < ROOM {
@@ -147,9 +166,8 @@ impl Sink {
 
     // Puts a number.
     pub fn number(self, n: u64) -> Self {
-        let mut digits = [0u8; 20];
-        let k = io::decimal(n, &mut digits);
-        self.text(&digits[..k])
+        let mut digits = Buffer::new();
+        self.text(digits.format(n).as_bytes())
     }
 
     // Puts numbers, joined by commas.
