@@ -1,0 +1,5 @@
+-- `test_casework::fields::item` meets its contract.
+use Rattle.test_casework.proofs.fields.item.Given as goal
+
+abbrev pub decreases-loop-left : goal.decreases-loop-left
+decreases-loop-left l = l.left

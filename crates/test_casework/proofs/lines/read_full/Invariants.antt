@@ -1,0 +1,9 @@
+-- The places left of the text are fewer after each read.
+use Rattle.std.proofs.Common.{length, ◌-◌, ◌≤◌}
+use Rattle.test_casework.proofs.lines.read_full.Given as goal
+
+abbrev pub invariant-loop-n : goal.invariant-loop-n
+invariant-loop-n g l = l.n ≤ length l.text
+
+abbrev pub decreases-loop-n : goal.decreases-loop-n
+decreases-loop-n g l = length l.initial.text - l.n

@@ -1,0 +1,9 @@
+-- `test_casework::sink::Sink::each` meets its contract.
+use Rattle.std.proofs.Common.{◌-◌, ◌≤◌, length}
+use Rattle.test_casework.proofs.sink.Sink.each.Given as goal
+
+abbrev pub invariant-loop-i : goal.invariant-loop-i
+invariant-loop-i l = l.i ≤ length l.s
+
+abbrev pub decreases-loop-i : goal.decreases-loop-i
+decreases-loop-i l = length l.s - l.i
