@@ -2,12 +2,13 @@
 // A case is a letter, its kind, and hex digits, two to a byte. A line that starts with # is no case.
 #![tactic(auto)]
 
-use test_casework::{find, within};
+use std::io;
+use test_casework::{find, read_full, within};
 use utf8::unchecked::Encoded;
 
 // Writes a byte as two digits.
-fn show_byte(b: u8) {
-    io::print_hex(1, b as u64, 2);
+fn show_byte(rt: &impl Print, b: u8) -> io::Result<()> {
+    print!(rt; "{b:02x}")
 }
 
 // The number of four bytes, the highest first.
@@ -21,30 +22,21 @@ fn wide(b: u8) -> usize {
 }
 
 // D: a place of one byte, then a text.
-fn decode_case(b: &[u8]) {
+fn decode_case(rt: &impl Print, b: &[u8]) -> io::Result<()> {
     if b.len() < 1 {
-        return;
+        return Ok(());
     }
     let at = wide(b[0]);
     match utf8::decode(&b[1..], at) {
-        utf8::Decoded::Char { value, len } => {
-            io::write_all(1, b"char ");
-            io::print_hex(1, value as u64, 1);
-            io::write_all(1, b" ");
-            io::print_decimal(1, len as u64);
-        }
-        utf8::Decoded::Bad => {
-            io::write_all(1, b"bad");
-        }
-        utf8::Decoded::End => {
-            io::write_all(1, b"end");
-        }
+        utf8::Decoded::Char { value, len } => print!(rt; "char {value:x} {len}"),
+        utf8::Decoded::Bad => print!(rt; "bad"),
+        utf8::Decoded::End => print!(rt; "end"),
     }
 }
 
 // V: a text.
-fn valid_case(b: &[u8]) {
-    io::print_decimal(1, utf8::valid_up_to(b) as u64);
+fn valid_case(rt: &impl Print, b: &[u8]) -> io::Result<()> {
+    print!(rt; "{}", utf8::valid_up_to(b))
 }
 
 // The bytes of a number; none of what is no scalar value.
@@ -59,60 +51,57 @@ fn encoded(v: u32) -> Encoded {
 }
 
 // E: a number of four bytes; written are the length and the four bytes that it is encoded in.
-fn encode_case(b: &[u8]) {
+fn encode_case(rt: &impl Print, b: &[u8]) -> io::Result<()> {
     if b.len() < 4 {
-        return;
+        return Ok(());
     }
     let e = encoded(number(b[0], b[1], b[2], b[3]));
-    io::print_decimal(1, e.len as u64);
-    io::write_all(1, b" ");
+    print!(rt; "{} ", e.len)?;
     let r = e.bytes;
-    show_byte(r[0]);
-    show_byte(r[1]);
-    show_byte(r[2]);
-    show_byte(r[3]);
+    show_byte(rt, r[0])?;
+    show_byte(rt, r[1])?;
+    show_byte(rt, r[2])?;
+    show_byte(rt, r[3])
 }
 
 // Writes the answer to a case of a kind, whose bytes are given.
-fn answer(kind: u8, b: &[u8]) {
-    io::write_all(1, b" = ");
-    if kind == b'D' {
-        decode_case(b);
-    }
-    if kind == b'V' {
-        valid_case(b);
-    }
-    if kind == b'E' {
-        encode_case(b);
+fn answer(rt: &impl Print, kind: u8, b: &[u8]) -> io::Result<()> {
+    print!(rt; " = ")?;
+    match kind {
+        b'D' => decode_case(rt, b),
+        b'V' => valid_case(rt, b),
+        b'E' => encode_case(rt, b),
+        _ => Ok(()),
     }
 }
 
 // Writes a line, with its answer if it is a case.
-fn show_line(line: &[u8]) {
-    io::write_all(1, line);
+fn show_line(rt: &impl Print, line: &[u8]) -> io::Result<()> {
+    rt.write_all(line)?;
     if line.len() > 0 {
         let kind = line[0];
         if kind != b'#' {
             let mut b = [0u8; 64];
             let n = test_casework::unhex(&line[1..], &mut b, 0);
-            answer(kind, within(&b, 0, n));
+            answer(rt, kind, within(&b, 0, n))?;
         }
     }
-    io::write_all(1, b"\n");
+    println!(rt)
 }
 
 // Writes each line of a text.
-fn run(text: &[u8]) {
+fn run(rt: &impl Print, text: &[u8]) -> io::Result<()> {
     let mut at = 0;
     while at < text.len() {
         let end = find(text, at, b'\n');
-        show_line(within(text, at, end));
+        show_line(rt, within(text, at, end))?;
         at = end + 1;
     }
+    Ok(())
 }
 
-fn main() {
-    let mut buf = io::large_buffer();
-    let n = io::read_full(0, &mut buf);
-    run(&buf[..n]);
+fn main(rt: HostRuntime) -> io::Result<()> {
+    let mut buf = [0u8; 65536];
+    let n = read_full(&mut rt.stdin(), &mut buf)?;
+    run(&rt, &buf[..n])
 }
