@@ -11,7 +11,7 @@ use test_casework::{at_most, find, signed, within};
 use tokens::{Next, next_token};
 
 // What a look-up found: a number, a part of the text or of the tags, or a step of the token cursor.
-#[derive(Drop)]
+#[derive(Clone, Copy)]
 pub enum Found {
     Number(Number),
     Text(Slice),
@@ -21,7 +21,7 @@ pub enum Found {
 
 // What is changed of a sheet. N, B, C, E, G: that number of the record is the value, C the columns and E the cells. L: of the
 // buffer with the index only so many elements are lent.
-#[derive(Drop)]
+#[derive(Clone, Copy)]
 pub struct Damage {
     pub letter: u8,
     pub index: usize,

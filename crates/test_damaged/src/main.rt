@@ -10,14 +10,16 @@ mod damage;
 mod show;
 
 use sheet::Record;
+use std::io::{self, Stdout};
 use test_calls::{change, look};
-use test_casework::{at_most, byte, field, find, first, place, within, within16};
+use test_casework::{at_most, byte, field, find, first, place, read_full, within, within16};
 
 // The cells of 17 characters in 4,096 columns.
 const CELLS: usize = 69632;
 
 // Makes a call, and shows what it answers; of a change what it leaves too. There are at most four scores.
 fn call(
+    out: Stdout,
     line: &[u8],
     r: Record,
     text: &[u8],
@@ -28,12 +30,12 @@ fn call(
     cells: &mut [u16],
     lens: &mut [u16],
     tags: &[u8],
-) {
+) -> io::Result<()> {
     let which = first(field(line, 2));
     let a = place(line, 3);
     if (which == b'm') | (which == b'r') | (which == b'p') {
         let scores = within(b"-1,1,0,0", 0, at_most(a, 4) * 2);
-        show::answer(change(
+        let answer = change(
             which,
             r,
             text,
@@ -47,11 +49,11 @@ fn call(
             a,
             byte(line, 4),
             scores,
-        ));
-        show::left(marks, cells, lens);
-        return;
+        );
+        show::answer(out, answer)?;
+        return show::left(out, marks, cells, lens);
     }
-    show::found(look(
+    let found = look(
         which,
         r,
         text,
@@ -64,11 +66,13 @@ fn call(
         tags,
         a,
         place(line, 4),
-    ));
+    );
+    show::found(out, found)
 }
 
 // Makes the call of a case with as much of each buffer as is lent.
 fn lend(
+    out: Stdout,
     line: &[u8],
     r: Record,
     text: &[u8],
@@ -79,7 +83,7 @@ fn lend(
     cells: &mut [u16],
     lens: &mut [u16],
     tags: &[u8],
-) {
+) -> io::Result<()> {
     let n0 = damage::lent(line, 0, text.len());
     let n1 = damage::lent(line, 1, types.len());
     let n2 = damage::lent(line, 2, marks.len());
@@ -89,6 +93,7 @@ fn lend(
     let n6 = damage::lent(line, 6, lens.len());
     let n7 = damage::lent(line, 7, tags.len());
     call(
+        out,
         line,
         damage::record(line, r),
         within(text, 0, n0),
@@ -99,11 +104,12 @@ fn lend(
         &mut cells[..n5],
         &mut lens[..n6],
         within(tags, 0, n7),
-    );
+    )
 }
 
 // Makes the call of a case on a sheet with what the case changes of it.
 fn damaged(
+    out: Stdout,
     line: &[u8],
     r: Record,
     text: &mut [u8],
@@ -114,9 +120,11 @@ fn damaged(
     cells: &mut [u16],
     lens: &mut [u16],
     tags: &mut [u8],
-) {
+) -> io::Result<()> {
     damage::set(line, text, types, marks, chars, bytes, cells, lens, tags);
-    lend(line, r, text, types, marks, chars, bytes, cells, lens, tags);
+    lend(
+        out, line, r, text, types, marks, chars, bytes, cells, lens, tags,
+    )
 }
 
 // A record.
@@ -131,7 +139,7 @@ fn record(n: usize, b: usize, columns: usize, cells: usize, g: usize) -> Record 
 }
 
 // Sheet 0.
-fn mixed(line: &[u8]) {
+fn mixed(out: Stdout, line: &[u8]) -> io::Result<()> {
     let mut text = *b"a\xe3\x81\x82b";
     let mut types = [2u8, 3, 2];
     let mut marks = [0u8, 1];
@@ -142,13 +150,13 @@ fn mixed(line: &[u8]) {
     let mut tags = *b"x\xc3\xa9";
     let r = record(3, 5, 2, 6, 3);
     damaged(
-        line, r, &mut text, &mut types, &mut marks, &mut chars, &mut bytes, &mut cells, &mut lens,
-        &mut tags,
-    );
+        out, line, r, &mut text, &mut types, &mut marks, &mut chars, &mut bytes, &mut cells,
+        &mut lens, &mut tags,
+    )
 }
 
 // Sheet 1.
-fn worked(line: &[u8]) {
+fn worked(out: Stdout, line: &[u8]) -> io::Result<()> {
     let mut text = *b"ab";
     let mut types = [2u8, 2];
     let mut marks = [1u8];
@@ -159,13 +167,13 @@ fn worked(line: &[u8]) {
     let mut tags = *b"xy";
     let r = record(2, 2, 2, 4, 2);
     damaged(
-        line, r, &mut text, &mut types, &mut marks, &mut chars, &mut bytes, &mut cells, &mut lens,
-        &mut tags,
-    );
+        out, line, r, &mut text, &mut types, &mut marks, &mut chars, &mut bytes, &mut cells,
+        &mut lens, &mut tags,
+    )
 }
 
 // Sheet 2.
-fn plain(line: &[u8]) {
+fn plain(out: Stdout, line: &[u8]) -> io::Result<()> {
     let mut text = *b"ab";
     let mut types = [2u8, 2];
     let mut marks = [0u8];
@@ -176,16 +184,16 @@ fn plain(line: &[u8]) {
     let mut tags = *b"z";
     let r = record(2, 2, 0, 0, 0);
     damaged(
-        line, r, &mut text, &mut types, &mut marks, &mut chars, &mut bytes, &mut cells, &mut lens,
-        &mut tags,
-    );
+        out, line, r, &mut text, &mut types, &mut marks, &mut chars, &mut bytes, &mut cells,
+        &mut lens, &mut tags,
+    )
 }
 
 // The positions of 17 characters of one byte.
 const PLACES: [u16; 18] = [0, 1, 2, 3, 4, 5, 6, 7, 8, 9, 10, 11, 12, 13, 14, 15, 16, 17];
 
 // Sheet 3.
-fn wide(line: &[u8]) {
+fn wide(out: Stdout, line: &[u8]) -> io::Result<()> {
     let mut text = [b'a'; 17];
     let mut types = [2u8; 17];
     let mut marks = [0u8; 16];
@@ -196,43 +204,44 @@ fn wide(line: &[u8]) {
     let mut tags = [0u8; 1];
     let r = record(17, 17, 0, 0, 0);
     damaged(
-        line, r, &mut text, &mut types, &mut marks, &mut chars, &mut bytes, &mut cells, &mut lens,
-        &mut tags,
-    );
+        out, line, r, &mut text, &mut types, &mut marks, &mut chars, &mut bytes, &mut cells,
+        &mut lens, &mut tags,
+    )
 }
 
 // Makes the call of a case.
-fn run(line: &[u8]) {
+fn run(out: Stdout, line: &[u8]) -> io::Result<()> {
     match place(line, 0) {
-        0 => mixed(line),
-        1 => worked(line),
-        2 => plain(line),
-        _ => wide(line),
+        0 => mixed(out, line),
+        1 => worked(out, line),
+        2 => plain(out, line),
+        _ => wide(out, line),
     }
 }
 
 // Writes a line, with its answer if it is a case.
-fn show_line(line: &[u8]) {
-    io::write_all(1, line);
+fn show_line(out: Stdout, line: &[u8]) -> io::Result<()> {
+    out.write_all(line)?;
     if first(line) != b'#' {
-        io::write_all(1, b" = ");
-        run(line);
+        print!(out; " = ")?;
+        run(out, line)?;
     }
-    io::write_all(1, b"\n");
+    println!(out)
 }
 
 // Writes each line of a text.
-fn each(text: &[u8]) {
+fn each(out: Stdout, text: &[u8]) -> io::Result<()> {
     let mut at = 0;
     while at < text.len() {
         let end = find(text, at, b'\n');
-        show_line(within(text, at, end));
+        show_line(out, within(text, at, end))?;
         at = end + 1;
     }
+    Ok(())
 }
 
-fn main() {
-    let mut buf = io::large_buffer();
-    let n = io::read_full(0, &mut buf);
-    each(&buf[..n]);
+fn main(rt: HostRuntime) -> io::Result<()> {
+    let mut buf = [0u8; 65536];
+    let n = read_full(&mut rt.stdin(), &mut buf)?;
+    each(rt.stdout(), &buf[..n])
 }
