@@ -5,6 +5,7 @@
 mod rooms;
 mod sheets;
 
+use std::io::{self, Read, Stdout};
 use test_casework::{Sink, field, first, next_line, number, within};
 use types::CharacterType;
 
@@ -49,8 +50,8 @@ fn answer(line: &[u8], sink: Sink) -> Sink {
 }
 
 // A line, with its answer if it is a question.
-fn answered(line: &[u8]) -> Sink {
-    let asked = Sink::new().text(line);
+fn answered(out: Stdout, line: &[u8]) -> Sink {
+    let asked = Sink::new(out).text(line);
     if first(line) == b'#' {
         return asked;
     }
@@ -58,24 +59,23 @@ fn answered(line: &[u8]) -> Sink {
 }
 
 // Writes a line, with its answer if it is a question.
-fn show_line(line: &[u8]) {
-    answered(line).put(b'\n').flush();
+fn show_line(out: Stdout, line: &[u8]) -> io::Result<()> {
+    answered(out, line).put(b'\n').finish()
 }
 
-// Answers each line of the input; the turns are counted down from a number that no run uses up.
-fn run(line: &mut [u8]) {
-    let mut turns = u64::MAX;
-    while turns > 0 {
-        let l = next_line(line);
+// Answers each line of the input; the turns are counted, up to a number that no run uses up.
+fn run(input: &mut impl Read, out: Stdout, line: &mut [u8]) -> io::Result<()> {
+    for _ in 0..u64::MAX {
+        let l = next_line(input, line)?;
         if !l.is {
-            return;
+            break;
         }
-        show_line(within(line, 0, l.n));
-        turns -= 1;
+        show_line(out, within(line, 0, l.n))?;
     }
+    Ok(())
 }
 
-fn main() {
+fn main(rt: HostRuntime) -> io::Result<()> {
     let mut line = [0u8; 8192];
-    run(&mut line);
+    run(&mut rt.stdin(), rt.stdout(), &mut line)
 }

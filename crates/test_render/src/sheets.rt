@@ -3,18 +3,15 @@ use sheet::{Answer, Record};
 use test_calls::look;
 use test_casework::{Sink, at_most, field, first, place, within};
 
-// What stands before the fields; those of a long line are only counted.
-fn head(kind: u8, a: Answer, sink: Sink) -> Sink {
-    if kind == b'L' {
-        return Sink::quiet();
-    }
+// What stands before the fields.
+fn head(a: Answer, sink: Sink) -> Sink {
     match a {
         Answer::Sentence(_) => sink.yes(),
         Answer::Refused(f) => crate::refusal(f, sink).put(b' '),
     }
 }
 
-// L: N, B, columns, and the length and the sum of the fields.
+// L: N, B, columns, and the length and the sum of the fields, which are only counted.
 fn long_told(r: Record, fields: Sink, sink: Sink) -> Sink {
     let told = sink
         .put(b'=')
@@ -140,10 +137,21 @@ pub fn told(
         );
     }
     let now = after(a, r);
-    let to = head(kind, a, sink);
-    let whole = crate::fields(now, text, types, marks, chars, bytes, cells, lens, tags, to);
     if kind == b'L' {
-        return long_told(r, whole, sink);
+        let counted = crate::fields(
+            now,
+            text,
+            types,
+            marks,
+            chars,
+            bytes,
+            cells,
+            lens,
+            tags,
+            Sink::quiet(),
+        );
+        return long_told(r, counted, sink);
     }
-    whole
+    let to = head(a, sink);
+    crate::fields(now, text, types, marks, chars, bytes, cells, lens, tags, to)
 }
