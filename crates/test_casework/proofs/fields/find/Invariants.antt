@@ -1,4 +1,4 @@
--- `test_casework::fields::find` meets its contract.
+-- The bytes left are fewer after each turn, which starts at the place given or where the bytes end.
 use Rattle.std.proofs.Common.{◌-◌, ◌≤◌, min, length}
 use Rattle.test_casework.proofs.fields.find.Given as goal
 

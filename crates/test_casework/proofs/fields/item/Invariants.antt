@@ -1,4 +1,4 @@
--- `test_casework::fields::item` meets its contract.
+-- Each turn counts one down.
 use Rattle.test_casework.proofs.fields.item.Given as goal
 
 abbrev pub decreases-loop-left : goal.decreases-loop-left

@@ -1,4 +1,4 @@
--- `test_casework::fields::number` meets its contract.
+-- The bytes left are fewer after each turn.
 use Rattle.std.proofs.Common.{◌-◌, ◌≤◌, length}
 use Rattle.test_casework.proofs.fields.number.Given as goal
 

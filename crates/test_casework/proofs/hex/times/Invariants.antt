@@ -1,9 +1,5 @@
--- `test_casework::hex::times` meets its contract.
-use Rattle.std.proofs.Common.{◌≡◌, length}
+-- Each turn counts one down.
 use Rattle.test_casework.proofs.hex.times.Given as goal
-
-abbrev pub invariant-loop-left : goal.invariant-loop-left
-invariant-loop-left l = length l.out ≡ length l.initial.out
 
 abbrev pub decreases-loop-left : goal.decreases-loop-left
 decreases-loop-left l = l.left

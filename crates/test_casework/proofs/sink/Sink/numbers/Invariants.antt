@@ -1,4 +1,4 @@
--- `test_casework::sink::Sink::numbers` meets its contract.
+-- What is left is less after each turn.
 use Rattle.std.proofs.Common.{◌-◌, ◌≤◌, length}
 use Rattle.test_casework.proofs.sink.Sink.numbers.Given as goal
 
