@@ -22,8 +22,7 @@ use tokens::{Next, Step};
 use types::CharacterType;
 
 // The type of any number: 1 to 6, and 6 for one that is no character. Nothing is refused.
-#[unsafe(no_mangle)]
-pub extern "C" fn ighdelmur_get_type(c: u32) -> u64
+pub fn ighdelmur_get_type(c: u32) -> u64
     ensures { result ≡ type_of c }
 {
     CharacterType::get_type(c) as u64
@@ -31,14 +30,7 @@ pub extern "C" fn ighdelmur_get_type(c: u32) -> u64
 
 // Reads a line in the form `reader` (0 raw, 1 tokenized, 2 partial) and writes it in the form `writer` (1 or 2) into the output, behind the bytes
 // before `at`: the end place.
-#[unsafe(no_mangle)]
-pub extern "C" fn ighdelmur_convert(
-    reader: u32,
-    writer: u32,
-    line: &[u8],
-    out: &mut [u8],
-    at: usize,
-) -> u64
+pub fn ighdelmur_convert(reader: u32, writer: u32, line: &[u8], out: &mut [u8], at: usize) -> u64
     ensures { Converts code_of (conversion reader writer line.now (length out.old) at) at out.old result
         out.new }
 {
@@ -76,8 +68,7 @@ fn tell_read(answer: Answer, numbers: &mut [u64]) -> u64
 
 // Reads a line in a form (0 raw, 1 tokenized, 2 partial) into lent buffers: 0, and N, B, columns, cells and G in the first five numbers. 16 is the
 // first refusal, then 14 for fewer numbers than five, both at 0; then the reader's.
-#[unsafe(no_mangle)]
-pub extern "C" fn ighdelmur_read(
+pub fn ighdelmur_read(
     form: u32,
     line: &[u8],
     text: &mut [u8],
@@ -174,8 +165,7 @@ fn tell_number(answer: Number) -> u64
 }
 
 // Writes a sheet in a form (1 tokenized, 2 partial) at the front of the output: the line's length. 16 at 0 is the first refusal; then the writer's.
-#[unsafe(no_mangle)]
-pub extern "C" fn ighdelmur_write(
+pub fn ighdelmur_write(
     form: u32,
     n: usize,
     b: usize,
@@ -245,8 +235,7 @@ fn nearest_in(answer: Number) -> Number
 
 // Writes the partial line of a sheet with the labels of the characters from `start` up to `end` withheld at the front of the output: the line's
 // length. 13 at 0 is the first refusal, then 14 at the start, then 12 at the length; a start from 2^32 - 1 on is told as 2^32 - 1.
-#[unsafe(no_mangle)]
-pub extern "C" fn ighdelmur_withhold(
+pub fn ighdelmur_withhold(
     n: usize,
     b: usize,
     columns: usize,
@@ -292,8 +281,7 @@ pub extern "C" fn ighdelmur_withhold(
 }
 
 // Writes the note key of a sheet at the front of the output: the key's length. 13 at 0 is the first refusal, then 12 at the length.
-#[unsafe(no_mangle)]
-pub extern "C" fn ighdelmur_key(
+pub fn ighdelmur_key(
     n: usize,
     b: usize,
     columns: usize,
@@ -366,8 +354,7 @@ fn tell_next(next: Next, span: &mut [u64]) -> u64
 
 // The step of the token cursor at `p`: 1 and the token's start and end at the front of the span, or 0 and where the cursor stands. 13 is the first
 // refusal, then 14 for a span of fewer numbers than two, both at 0.
-#[unsafe(no_mangle)]
-pub extern "C" fn ighdelmur_next_token(
+pub fn ighdelmur_next_token(
     n: usize,
     b: usize,
     columns: usize,
