@@ -16,8 +16,8 @@ pages=$here/notes/help
 is_built() {
     local sources=("$top/crates.txt" "$top/crates" "$here/notes" "$here/sides" "$here/tools.sh")
     [ "$verb" != compare ] || sources+=("$here/original" "$here/oracle" "$src")
-    [ -x "$program" ] && { [ ${#run[@]} = 0 ] || [ -x "${run[0]}" ]; } &&
-        [ -z "$(find "${sources[@]}" \( -name '*.rt' -o -name '*.antt' -o -name crates.txt -o -name '*.rs' -o -name tools.sh \) -newer "$program" -print -quit)" ]
+    [ -x "$program" ] &&
+        [ -z "$(find "${sources[@]}" -name out -prune -o \( -name '*.rt' -o -name '*.antt' -o -name crates.txt -o -name '*.rs' -o -name tools.sh \) -newer "$program" -print -quit)" ]
 }
 
 # Builds the program; the old one stands there until the new one is whole. Only one script at a time builds.
@@ -30,7 +30,7 @@ build() {
     ! is_built || return 0
     command -v rt >/dev/null || give_up_without "$(no_rt)"
     find_x86 || give_up_without "$(no_x86)"
-    tells=yes libraries "$out/staticlib.log" exports
+    tells=yes library "$out/staticlib.log"
     mkdir -p "$out/new" || give_up "cannot write to $out"
     compile "$out/new" "${x86[@]}" --crate-type rlib --crate-name sides -L "$top/target/staticlib" "${cfgs[@]}" "$here/sides/lib.rs"
     compile "$out/new" "${x86[@]}" --crate-name notes --extern sides -L "$top/target/staticlib" "${cfgs[@]}" "$here/notes/main.rs"
@@ -69,12 +69,11 @@ if [ "$verb" = compare ]; then
     find_src || give_up "this is missing: $(no_src)"
 fi
 out=$out/notes
-find_run
 if ! is_built; then
     echo 'notes.sh: what it needs is proved and built first; this takes some minutes' >&2
     (build) </dev/null >&2 || give_up 'it could not be built, for the reason above; nothing was done'
 fi
-CLOSED=$closed "${run[@]}" "$program" "$@"
+CLOSED=$closed "$program" "$@"
 status=$?
 [ "$status" -le 2 ] || give_up "the program ended with status $status before its end"
 exit "$status"

@@ -1,14 +1,13 @@
 #!/usr/bin/env bash
 # Proves and builds the program `respell` where it is not there or a source is newer, and runs it on a file, or on standard input where none is named.
-# On a processor other than x86-64 it runs under the kit's emulator. The program has no exit status: it tells what failed on standard error, and that
-# makes the status here.
+# The program has no exit status: it tells what failed on standard error, and that makes the status here.
 set -u
 # Closed ones are told first: what is opened later would take their places.
 [ -e /dev/fd/2 ] || exec 2>/dev/null
 [ -e /dev/fd/1 ] || { echo 'respell.sh: standard output is closed' >&2 && exit 1; }
 [ -e /dev/fd/0 ] || { echo 'respell.sh: standard input is closed' >&2 && exit 1; }
 here=$(cd "$(dirname "${BASH_SOURCE[0]}")" && pwd) || exit 2
-program=$here/target/bin/respell
+program=$here/crates/respell/out/respell
 
 usage() {
     cat <<'USAGE'
@@ -30,20 +29,22 @@ status: 0  every line has its answer (a refusal is an answer)
 USAGE
 }
 
+# Of what rt prints while it proves and builds, a line for each crate as it is proved: a script of sed.
+each_proved='/^crate /{s/^crate \([^:]*\):.*/rt: \1 proved/;h}; /^logic=proved/{g;/./p}'
+
 # Says what is wrong, and ends with status 2.
 stop() {
     echo "respell.sh: $1" >&2
     exit 2
 }
 
-# Tells each crate as it is proved, and everything where one is not.
+# Tells each crate as it is proved, and everything where one is not. A run on no input has the program built, and does nothing more.
 build() {
     local log=$here/target/respell.log
     command -v rt >/dev/null || stop "the program is not built, and the kit's command rt, which builds it, is not on the PATH"
     mkdir -p "${log%/*}" || stop "no folder for what is built: ${log%/*}"
-    [ -x "$program" ] || rm -f "$here/target/stamp/respell"
     echo 'respell.sh: the program is proved and built first; this takes some minutes' >&2
-    (set -o pipefail && cd "$here" && rt check respell </dev/null 2>&1 | tee "$log" | grep '^rt:' >&2) || { cat "$log" >&2 && stop 'the program could not be built'; }
+    (set -o pipefail && cd "$here/crates/respell" && rt run </dev/null 2>&1 | tee "$log" | sed -un "$each_proved" >&2) || { cat "$log" >&2 && stop 'the program could not be built'; }
     touch "$program"
 }
 
@@ -59,10 +60,8 @@ if [ $# = 1 ]; then
     [ ! -d "$1" ] || stop "'$1' is a folder"
     { exec <"$1"; } 2>/dev/null || stop "'$1' cannot be read"
 fi
-[ -x "$program" ] && [ -z "$(find "$here/crates.txt" "$here/crates" \( -name '*.rt' -o -name '*.antt' -o -name crates.txt \) -newer "$program" -print -quit)" ] || build
-tools=$(dirname "$(dirname "$(rt doc)")")/on/$(uname -m)/toolchain
-emulator=$tools/bin/qemu-x86_64
-[ -x "$emulator" ] || emulator=
+[ "$(uname -m)" = x86_64 ] || stop "the kit and the program are for x86-64 alone, and this is $(uname -m)"
+[ -x "$program" ] && [ -z "$(find "$here/crates.txt" "$here/crates" -name out -prune -o \( -name '*.rt' -o -name '*.antt' -o -name crates.txt \) -newer "$program" -print -quit)" ] || build
 # Whether a pipe or a terminal does not wait: opened once more, it does.
 is_hasty() {
     local flags
@@ -74,7 +73,7 @@ is_hasty() {
 # A reader that stops early is told as a failed write.
 trap '' PIPE
 exec 3>&1
-said=$(${emulator:+"$emulator"} "$tools/lib/ld-linux-x86-64.so.2" --library-path "$tools/lib" "$program" 2>&1 >&3 3>&-)
+said=$("$program" 2>&1 >&3 3>&-)
 status=$?
 if [ -n "$said" ] || [ "$status" != 0 ]; then
     [ -z "$said" ] || printf '%s\n' "$said" >&2

@@ -10,7 +10,7 @@ usage: bash test.sh [--without-rust]
        bash test.sh --help
 
 Everything that must hold here, from nothing:
-  rt ci            every crate proved, every must-fail edit refused, every program run
+  rt ci            every crate proved, every must-fail edit refused, every program run; an edit that cannot be tried is a failure
   checks/run.sh    the checks that need no Rust
   host/check.sh    the Rust part: the port compared with the original Rust
 
@@ -23,9 +23,9 @@ is missing that part is not run, which is a failure, and the line before the las
 
 It takes 20 to 30 minutes on two processors, two or three of them for the Rust part.
 
-What the Rust part lacks of Debian's packages (a compiler; on an Arm machine one for x86-64 and an emulator; python3) is installed
-by apt-get where this runs as root. Nothing is installed where it is there already, with --without-rust, without the original's
-sources, or with IGHDELMUR_INSTALL=no in the environment.
+What the Rust part lacks of Debian's packages (a compiler; python3) is installed by apt-get where this runs as root. Nothing is
+installed where it is there already, with --without-rust, without the original's sources, or with IGHDELMUR_INSTALL=no in the
+environment. The kit is for x86-64 alone.
 
 The last line is 'N passed, M failed'. Status 0: M is 0; 1: it is not; 2: the words were not understood.
 TEXT
@@ -65,12 +65,12 @@ finish() {
     exit
 }
 
-# Runs a part of the gate and adds its last line to the count.
+# Runs a part of the gate and adds its last line, behind which words in brackets may stand, to the count.
 part() {
     local status
     "$@" </dev/null | tee "$work/log"
     status=${PIPESTATUS[0]}
-    if ! [[ $(tail -n 1 "$work/log") =~ ^([0-9]+)\ passed,\ ([0-9]+)\ failed$ ]]; then
+    if ! [[ $(tail -n 1 "$work/log") =~ ^([0-9]+)\ passed,\ ([0-9]+)\ failed(\ \(.*\))?$ ]]; then
         fault "the last line of $* is not 'N passed, M failed' (status $status)"
         return
     fi
@@ -79,7 +79,18 @@ part() {
     [ "$status" = 0 ] || [ $((10#${BASH_REMATCH[2]})) != 0 ] || fault "$* counts no failure and ends with status $status"
 }
 
-listed=$(sed 's/[[:blank:]]*:.*//; s/^[[:blank:]]*//' crates.txt)
+# Looks at the line in which 'rt ci' sums up what passed: must-fail edits that it could not apply or read try nothing, and it fails for none of them.
+tried() {
+    local line
+    line=$(grep '^rt: ok' "$work/log")
+    if [[ $line =~ ,\ 0*[1-9][0-9]*\ bad ]]; then
+        fault "of the must-fail edits${BASH_REMATCH[0]}: rt ci could not try them; its words on each are above"
+    elif [ -z "$line" ] && [ "$failed" = 0 ]; then
+        fault "rt ci has no line that begins with 'rt: ok'"
+    fi
+}
+
+listed=$(sed 's/^[[:blank:]]*//; s/[[:blank:]:#].*//' crates.txt)
 shopt -s nullglob
 for folder in crates/*/; do
     name=$(basename "$folder")
@@ -96,13 +107,12 @@ kit=$(sed -n 's/.*Proved with: `\([^`]*\)`.*/\1/p' README.md | head -n 1)
 this=$(rt version </dev/null)
 [ "$kit" = "$this" ] || echo "test.sh: README.md names the kit '$kit', and this is '$this'"
 
-# rt ends one batch of proofs before it begins the next: batches of four keep two processors busy.
-export RT_JOBS=${RT_JOBS:-4}
 [ "$rust" = yes ] && find_src || export IGHDELMUR_INSTALL=no
 # What the Rust part lacks is found out, and installed where it may be, while the proofs run.
 [ "$rust" = no ] || lacking >"$work/lacking" </dev/null &
 tools=$!
 part rt ci
+tried
 wait "$tools" || fault 'host/tools.sh failed'
 part bash checks/run.sh
 if [ "$rust" = no ]; then

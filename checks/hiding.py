@@ -3,7 +3,7 @@
 
     python3 checks/hiding.py [PROGRAM]
 
-PROGRAM is target/bin/test_hiding where none is named; on a processor other than x86-64 it runs under the kit's emulator.
+PROGRAM is crates/test_hiding/out/test_hiding where none is named, which `rt ci` leaves there, and `rt run` in crates/test_hiding too.
 Copies are asked of all ranges of: every accepted partial line of up to six characters over a small alphabet; every sentence of up to six text
 characters with every mark and few tags; the recorded partial lines of up to six text characters; and of drawn ranges of drawn lines.
 Keys are asked of: every accepted partial or tokenized line of up to six characters over that alphabet, and raw line of up to four; those
@@ -44,16 +44,15 @@ def fail(*words):
 
 
 def command():
-    """The program, with what it is run by."""
-    program = os.path.abspath(sys.argv[1] if len(sys.argv) > 1 else os.path.join(ROOT, "target", "bin", "test_hiding"))
+    """The program, where it can be run."""
+    program = os.path.abspath(sys.argv[1] if len(sys.argv) > 1 else os.path.join(ROOT, "crates", "test_hiding", "out", "test_hiding"))
     if not os.path.exists(program):
-        print(f"{program} is not there; `rt check test_hiding` proves and builds it")
+        print(f"{program} is not there; `rt run` in crates/test_hiding proves and builds it")
         sys.exit(2)
-    guide = subprocess.run(["rt", "doc"], capture_output=True, text=True, check=True).stdout.strip()
-    tools = os.path.join(os.path.dirname(os.path.dirname(guide)), "on", platform.machine(), "toolchain")
-    emulator = os.path.join(tools, "bin", "qemu-x86_64")
-    loader = [os.path.join(tools, "lib", "ld-linux-x86-64.so.2"), "--library-path", os.path.join(tools, "lib")]
-    return [emulator] * os.path.exists(emulator) + loader + [program]
+    if platform.machine() != "x86_64":
+        print(f"{program} is for x86-64 alone, and this is {platform.machine()}")
+        sys.exit(2)
+    return [program]
 
 
 def asked(questions):

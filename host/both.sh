@@ -16,4 +16,4 @@ check | joins | types | bench | notes | duplicates) ;;
 esac
 "$here/link.sh" >&2 || give_up 'the program could not be built, for the reason above; nothing was compared'
 find_x86 || give_up_without "$(no_x86)"
-MACHINE="$(uname -m), $(nproc) processors" EMULATOR="${run[*]}" exec "${run[@]}" "$out/x86/both" "$@"
+MACHINE="$(uname -m), $(nproc) processors" exec "$out/x86/both" "$@"

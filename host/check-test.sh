@@ -15,7 +15,7 @@ words=(check --lines 300)
 # What the words end with, on some drawn lines, where a part is made wrong; what is said is kept.
 asked() {
     local status=0
-    SPOIL=$1 "${run[@]}" "$out/x86/wrong/both" "${words[@]}" >"$said" 2>&1 || status=$?
+    SPOIL=$1 "$out/x86/wrong/both" "${words[@]}" >"$said" 2>&1 || status=$?
     echo "$status"
 }
 

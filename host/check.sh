@@ -56,9 +56,9 @@ if check 'the original, unchanged, compiles beside the stand-ins' "$here/build.s
     shown 'respell accepts and writes as the oracle on generated lines' python3 "$here/respelled.py" "$out/oracle" bash "$here/../respell.sh"
 fi
 if check 'the port and the original link into one program' "$here/link.sh"; then
-    shown 'the port answers as the original on generated lines' "${run[@]}" "$out/x86/both" check
-    shown 'joined lines read as their sentences joined, on both sides' "${run[@]}" "$out/x86/both" joins
-    shown 'the look-up, the reader and the check know the type of every number as the original does' "${run[@]}" "$out/x86/both" types
+    shown 'the port answers as the original on generated lines' "$out/x86/both" check
+    shown 'joined lines read as their sentences joined, on both sides' "$out/x86/both" joins
+    shown 'the look-up, the reader and the check know the type of every number as the original does' "$out/x86/both" types
     shown 'check, joins and types notice and name each part of a wrong port' "$here/check-test.sh"
     shown 'notes.sh does what its pages say, answers as a second reading, reports a wrong port, and says what it cannot do' python3 "$here/notes.py"
     shown "README.md's examples of notes.sh" python3 "$here/../checks/readme.py" notes

@@ -3,23 +3,22 @@
 set -eu
 . "$(dirname "${BASH_SOURCE[0]}")/tools.sh"
 usage='usage: host/count.sh [ARCHIVES]
-Builds host/count.c with the static library of crates/exports, and prints a table in Markdown: how many instructions each call executes on the ten
+Builds host/count.c with the static library of crates/exports_c, and prints a table in Markdown: how many instructions each call executes on the ten
 lines of each kind in host/samples/counted.txt, one call for each line.
 ARCHIVES: a folder with another libexports.a, which is counted instead, and with the libconvert.a that earlier states have beside it; a call that they
 lack has no row.
-On an x86-64 machine valgrind counts, on an Arm one the emulator, by host/inside.c.
+Valgrind counts.
 Status 0: the table is printed; 2: it could not be counted.'
 archives=
 [[ ${1:--} = -* ]] || { archives=$1 && shift; }
 no_words "$usage" "$@"
-[ "$(uname -m)" != x86_64 ] || command -v valgrind >/dev/null || { packages update && packages install valgrind; } || give_up_without "$(no_valgrind)"
+! is_x86 || command -v valgrind >/dev/null || { packages update && packages install valgrind; } || give_up_without "$(no_valgrind)"
 [ -n "$archives" ] || command -v rt >/dev/null || give_up_without "$(no_rt)"
 find_x86 || give_up_without "$(no_x86)"
-[ "$(uname -m)" = x86_64 ] || command -v cc >/dev/null || { packages update && packages install gcc libc6-dev; } || give_up_without "$(no_own_c)"
 out=$out/count
 building "$out"
 if [ -z "$archives" ]; then
-    libraries "$out/staticlib.log" exports
+    library "$out/staticlib.log"
     linked=("${here%/*}/target/staticlib/libexports.a")
 else
     linked=()
@@ -32,18 +31,11 @@ fi
 # All addresses are found before the first call, so that no call has the search for one in it.
 "${cc[@]}" -std=c11 -Wall -Wextra -Werror -O -fno-inline -o "$out/counted" "$here/count.c" -Wl,-z,now -Wl,--whole-archive "${linked[@]}" -Wl,--no-whole-archive ||
     give_up 'the compiler of C failed: its words are above'
-[ "$(uname -m)" = x86_64 ] || cc -std=c11 -D_GNU_SOURCE -Wall -Wextra -Werror -O -shared -fPIC -o "$out/inside.so" "$here/inside.c" ||
-    give_up 'the compiler of C failed: its words are above'
 
 # Prints how many instructions a function executes while the program runs: count_in FUNCTION WORDS.. What the program prints goes to $out/again.
 count_in() {
-    if [ "$(uname -m)" = x86_64 ]; then
-        valgrind --tool=callgrind --toggle-collect="$1" --callgrind-out-file="$out/callgrind.out" --log-file="$out/said" "$out/counted" "${@:2}" >"$out/again" &&
-            sed -n 's/^summary: //p' "$out/callgrind.out"
-    else
-        "${run[@]}" -plugin "$out/inside.so,call=$1,by=main:answer:type_line:read_line:write_line:withhold:write_key" "$out/counted" "${@:2}" >"$out/again" 2>"$out/said" &&
-            cat "$out/said"
-    fi
+    valgrind --tool=callgrind --toggle-collect="$1" --callgrind-out-file="$out/callgrind.out" --log-file="$out/said" "$out/counted" "${@:2}" >"$out/again" &&
+        sed -n 's/^summary: //p' "$out/callgrind.out"
 }
 
 # A row of the table, or none where the libraries lack the call: row NAME CALL FUNCTION [just], CALL as count.c has it; `just`: with just the room.
@@ -52,7 +44,7 @@ row() {
     for kind in 'notes P' 'plain P' 'notes T' 'plain T'; do
         sed -n "s/^$kind\t//p" "$here/samples/counted.txt" >"$out/lines"
         status=0
-        "${run[@]}" "$out/counted" "$2" "${kind: -1}" <"$out/lines" >"$out/answers" || status=$?
+        "$out/counted" "$2" "${kind: -1}" <"$out/lines" >"$out/answers" || status=$?
         [ "$status" != 3 ] || return 0
         [ "$status" = 0 ] || give_up "$1, $kind: the program failed with status $status"
         rooms=()

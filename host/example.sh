@@ -1,15 +1,15 @@
 #!/usr/bin/env bash
-# Builds host/example.c and host/example.rs with the static library of crates/exports, and holds what they print to what is expected.
+# Builds host/example.c and host/example.rs with the static library of crates/exports_c, and holds what they print to what is expected.
 set -eu
 . "$(dirname "${BASH_SOURCE[0]}")/tools.sh"
 no_words 'usage: host/example.sh
-Builds host/example.c and host/example.rs with the static library of crates/exports, runs both and shows what they print.
+Builds host/example.c and host/example.rs with the static library of crates/exports_c, runs both and shows what they print.
 Status 0: it is what is expected; 1: it is not; 2: they could not be built.' "$@"
 command -v rt >/dev/null || give_up_without "$(no_rt)"
 find_x86 || give_up_without "$(no_x86)"
 out=$out/example
 building "$out"
-libraries "$out/staticlib.log" exports
+library "$out/staticlib.log"
 archives=${here%/*}/target/staticlib
 
 "${cc[@]}" -std=c11 -Wall -Wextra -Werror -O -o "$out/in_c" "$here/example.c" "$archives/libexports.a" || give_up 'the compiler of C failed: its words are above'
@@ -19,7 +19,7 @@ printf '%s\n' 'a/x|b/' 'refused: 6 at 2' '猫/名詞|が/助詞' 'refused: 11 at
 wide=$(printf 'b%.0s' {1..45})$(printf '/%.0s' {1..46})
 for program in in_c in_rust; do
     status=0
-    "${run[@]}" "$out/$program" 'a/x b' 'a  b' '猫/名詞 が/助詞' "$wide" >"$out/printed" || status=$?
+    "$out/$program" 'a/x b' 'a  b' '猫/名詞 が/助詞' "$wide" >"$out/printed" || status=$?
     cat "$out/printed"
     if [ "$status" != 0 ] || ! cmp "$out/expected" "$out/printed"; then
         echo "host/example.sh: $out/$program ends with status $status and prints the above; expected are the lines of $out/expected" >&2

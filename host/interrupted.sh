@@ -12,12 +12,8 @@ building "$out"
 crates=${here%/*}/crates/respell
 bash "${here%/*}/respell.sh" </dev/null || give_up 'respell.sh cannot build or run the program: its words are above'
 "${cc[@]}" -std=gnu11 -Wall -Wextra -Werror -O -shared -fPIC -o "$out/interrupted.so" "$here/interrupted.c" || give_up 'the compiler of C failed: its words are above'
-tools=$(dirname "$(dirname "$(rt doc)")")/on/$(uname -m)/toolchain
-emulator=$tools/bin/qemu-x86_64
-[ -x "$emulator" ] || emulator=
 status=0
-${emulator:+"$emulator"} "$tools/lib/ld-linux-x86-64.so.2" --preload "$out/interrupted.so" --library-path "$tools/lib" "${here%/*}/target/bin/respell" \
-    <"$crates/stdin" >"$out/printed" 2>"$out/said" || status=$?
+LD_PRELOAD=$out/interrupted.so "$crates/out/respell" <"$crates/stdin" >"$out/printed" 2>"$out/said" || status=$?
 if [ "$status" != 0 ] || [ -s "$out/said" ] || ! cmp "$crates/stdout" "$out/printed"; then
     cat "$out/said"
     echo "host/interrupted.sh: the program ends with status $status and prints $out/printed; expected are the lines of $crates/stdout" >&2

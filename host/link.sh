@@ -12,7 +12,7 @@ command -v rt >/dev/null || give_up_without "$(no_rt)"
 find_x86 || give_up_without "$(no_x86)"
 out=$out/x86
 building "$out"
-libraries "$out/staticlib.log" exports
+library "$out/staticlib.log"
 archives=${here%/*}/target/staticlib
 
 stamp=$("${x86[@]}" --version; echo "$src"; cat "$archives/libexports.a" "$src/sentence.rs" "$src/predictor.rs" "$here"/{link,tools}.sh "$here"/*/*.rs "$here/both/usage.txt" | sha256sum)

@@ -1,16 +1,16 @@
 #!/usr/bin/env bash
-# Builds host/loader.c and host/loader.rs with the static library of crates/exports, and holds the tables of tags that they print to what is expected.
+# Builds host/loader.c and host/loader.rs with the static library of crates/exports_c, and holds the tables of tags that they print to what is expected.
 set -eu
 . "$(dirname "${BASH_SOURCE[0]}")/tools.sh"
 no_words 'usage: host/loader.sh
-Builds host/loader.c and host/loader.rs, which read notes and walk their tags by a constant stride, with the static library of crates/exports, runs
+Builds host/loader.c and host/loader.rs, which read notes and walk their tags by a constant stride, with the static library of crates/exports_c, runs
 both and shows what they print.
 Status 0: it is what is expected; 1: it is not; 2: they could not be built.' "$@"
 command -v rt >/dev/null || give_up_without "$(no_rt)"
 find_x86 || give_up_without "$(no_x86)"
 out=$out/loader
 building "$out"
-libraries "$out/staticlib.log" exports
+library "$out/staticlib.log"
 archives=${here%/*}/target/staticlib
 
 "${cc[@]}" -std=c11 -Wall -Wextra -Werror -O -o "$out/in_c" "$here/loader.c" "$archives/libexports.a" || give_up 'the compiler of C failed: its words are above'
@@ -23,7 +23,7 @@ prints() {
     printf '%s\n' "$expected" >"$out/expected"
     for program in in_c in_rust; do
         status=0
-        "${run[@]}" "$out/$program" "$@" >"$out/printed" || status=$?
+        "$out/$program" "$@" >"$out/printed" || status=$?
         head -n 5 "$out/printed" | cut -c1-60
         if [ "$status" != 0 ] || ! cmp "$out/expected" "$out/printed"; then
             echo "host/loader.sh: $out/$program ends with status $status and prints $out/printed; expected are the lines of $out/expected" >&2

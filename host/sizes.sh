@@ -3,7 +3,7 @@
 set -eu
 . "$(dirname "${BASH_SOURCE[0]}")/tools.sh"
 usage='usage: host/sizes.sh [ARCHIVES]
-Links shared libraries out of the static library of crates/exports, each with some of its calls, and leaves out what these calls do not reach. Prints a
+Links shared libraries out of the static library of crates/exports_c, each with some of its calls, and leaves out what these calls do not reach. Prints a
 table in Markdown: the bytes of their code, of their constants and of their data that is written.
 ARCHIVES: a folder with another libexports.a, which is measured instead; a call that it lacks has no row.
 Status 0: the table is printed; 2: they could not be linked.'
@@ -15,7 +15,7 @@ find_x86 || give_up_without "$(no_x86)"
 out=$out/sizes
 building "$out"
 if [ -z "$archives" ]; then
-    libraries "$out/staticlib.log" exports
+    library "$out/staticlib.log"
     archives=${here%/*}/target/staticlib
 fi
 [ -f "$archives/libexports.a" ] || give_up "there is no libexports.a in $archives"

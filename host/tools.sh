@@ -11,8 +11,8 @@ needed=83
 # Why the last package was not installed.
 why=
 
-# Finds all that the Rust part needs: sets `src`, `rustc`, `rustdoc`, `x86`, `cc` and `run`, and prints a line for each thing that is missing.
-# What Debian has is installed where it is missing; where the original's sources are missing, nothing is.
+# Finds all that the Rust part needs: sets `src`, `rustc`, `rustdoc`, `x86` and `cc`, and prints a line for each thing that is missing.
+# What Debian has is installed where it is missing; where the original's sources are missing or the machine is no x86-64 one, nothing is.
 lacking() {
     command -v rt >/dev/null || no_rt
     if ! find_src; then
@@ -20,12 +20,9 @@ lacking() {
         command -v python3 >/dev/null || no_python
         return 0
     fi
+    is_x86 || { no_x86 && return 0; }
     command -v python3 >/dev/null || { packages update && packages install python3; } || no_python
-    if ! find_rustc; then
-        no_rustc
-    elif ! find_x86; then
-        no_x86
-    fi
+    find_x86 || no_x86
 }
 
 # What is missing, and what to do: a line of each.
@@ -34,13 +31,12 @@ no_src() { echo "the original's sources (no sentence.rs and predictor.rs in $src
 no_python() { echo "python3 (install it${why:+; $why})"; }
 no_valgrind() { echo "valgrind (install Debian's package valgrind${why:+; $why})"; }
 no_rustc() { echo "rustc 1.$needed or later with rustdoc, and cc (install them${why:+; $why})"; }
-no_own_c() { echo "cc, a compiler of C for this machine (install gcc and libc6-dev${why:+; $why})"; }
 no_x86() {
-    case $(uname -m) in
-    x86_64) no_rustc ;;
-    aarch64) echo "a compiler and an emulator for x86-64 (install the packages that host/README.md lists${why:+; $why})" ;;
-    *) echo "an x86-64 or Arm machine (the port's static libraries are for x86-64, and this is $(uname -m))" ;;
-    esac
+    if is_x86; then
+        no_rustc
+    else
+        echo "an x86-64 machine (the kit and the port's static library are for x86-64 alone, and this is $(uname -m))"
+    fi
 }
 
 # Sets `src` to the folder of the original's sources, or fails.
@@ -71,36 +67,15 @@ new_enough() {
     [ -x "$rustdoc" ]
 }
 
-# Sets `x86` to the call of a compiler for x86-64, the only processor of a static library of Rattle, `cc` to one for C, and `run` to what runs
-# their programs, or fails.
+# Sets `x86` to the call of a compiler for x86-64, the only processor of the kit and of a static library of Rattle, and `cc` to one for C, or fails.
 find_x86() {
-    find_run
-    case $(uname -m) in
-    x86_64)
-        find_rustc || return 1
-        x86=("$rustc")
-        cc=(cc)
-        ;;
-    aarch64)
-        crosses || { install_cross && crosses; } || return 1
-        x86=("$usr/bin/rustc" --target x86_64-unknown-linux-gnu -C linker=x86_64-linux-gnu-gcc)
-        cc=(x86_64-linux-gnu-gcc)
-        ;;
-    *) return 1 ;;
-    esac
+    is_x86 && find_rustc || return 1
+    x86=("$rustc")
+    cc=(cc)
 }
 
-# Sets `run` to what runs a program for x86-64: an emulator on an Arm machine, nothing elsewhere.
-find_run() {
-    run=()
-    [ "$(uname -m)" != aarch64 ] || run=("$usr/bin/qemu-x86_64")
-}
-
-# Whether Debian's compiler is there with its library for x86-64, a compiler of C for x86-64 with C's start files, and the emulator.
-crosses() {
-    local library=("$usr"/lib/rustlib/x86_64-unknown-linux-gnu/lib/libstd-*.rlib)
-    (new_enough "$usr/bin/rustc") && [ -f "${library[0]}" ] && command -v x86_64-linux-gnu-gcc >/dev/null && [ -f "$usr/x86_64-linux-gnu/lib/Scrt1.o" ] &&
-        [ -x "$usr/bin/qemu-x86_64" ]
+is_x86() {
+    [ "$(uname -m)" = x86_64 ]
 }
 
 # Debian's compiler, or only a linker where a compiler is there: rustc-web is the newer one where rustc itself is old.
@@ -111,13 +86,6 @@ install_rustc() {
     else
         packages install rustc-web || packages install rustc
     fi
-}
-
-# What an Arm machine needs to build and run programs for x86-64.
-install_cross() {
-    local others=(gcc-x86-64-linux-gnu libc6-dev-amd64-cross qemu-user)
-    may_install && dpkg --add-architecture amd64 2>/dev/null && packages update || return 1
-    packages install rustc-web libstd-rust-web-dev:amd64 "${others[@]}" || packages install rustc libstd-rust-dev:amd64 "${others[@]}"
 }
 
 # Debian's package manager, where there is one and it may be used. It takes nothing away.
@@ -169,22 +137,21 @@ building() {
     mkdir -p "$1" && exec 9>"${here%/*}/target/host/lock" && flock 9 || give_up "cannot write to $1"
 }
 
-# The port's static libraries, proved and written by rt where a crate or the kit has changed since; what rt says is shown where it fails, and where
-# `tells` is set each crate as it is proved: libraries LOG NAME..
-libraries() {
-    local log=$1 name archive stamp crates
-    shift
-    crates=$(rt version </dev/null; cd "$here/.." && find crates.txt crates -type f ! -path '*/must-fail*' -print0 | LC_ALL=C sort -z | xargs -0 sha256sum | sha256sum)
-    for name in "$@"; do
-        archive=${here%/*}/target/staticlib/lib$name.a
-        stamp=${here%/*}/target/host/lib$name.stamp
-        [ ! -f "$archive" ] || [ "$crates $(sha256sum <"$archive")" != "$(cat "$stamp" 2>/dev/null)" ] || continue
-        rm -f "$stamp"
-        (set -o pipefail && cd "$here/.." && rt staticlib "$name" 2>&1 </dev/null | tee "$log" | sed -un "${tells:+/^rt: .* proved/p}" >&2) ||
-            { cat "$log" >&2 && give_up "'rt staticlib $name' failed: its words are above"; }
-        [ -f "$archive" ] || give_up "'rt staticlib $name' wrote no $archive"
-        echo "$crates $(sha256sum <"$archive")" >"$stamp"
-    done
+# Of what rt prints while it proves and builds, a line for each crate as it is proved: a script of sed.
+each_proved='/^crate /{s/^crate \([^:]*\):.*/rt: \1 proved/;h}; /^logic=proved/{g;/./p}'
+
+# The port's static library: the crate exports_c, proved and built by rt where a crate or the kit has changed since, under the name that C links. What rt
+# says is shown where it fails, and where `tells` is set each crate as it is proved: library LOG
+library() {
+    local log=$1 crates made=${here%/*}/crates/exports_c/out/libexports_c.a archive=${here%/*}/target/staticlib/libexports.a stamp=${here%/*}/target/host/libexports.stamp
+    crates=$(rt version </dev/null; cd "$here/.." && find crates.txt crates \( -name out -o -name 'must-fail*' \) -prune -o -type f -print0 | LC_ALL=C sort -z | xargs -0 sha256sum | sha256sum)
+    [ ! -f "$archive" ] || [ "$crates $(sha256sum <"$archive")" != "$(cat "$stamp" 2>/dev/null)" ] || return 0
+    rm -f "$stamp"
+    (set -o pipefail && cd "$here/../crates/exports_c" && rt lib 2>&1 </dev/null | tee "$log" | sed -un "${tells:+$each_proved}" >&2) ||
+        { cat "$log" >&2 && give_up "'rt lib' in crates/exports_c failed: its words are above"; }
+    [ -f "$made" ] || give_up "'rt lib' in crates/exports_c wrote no $made"
+    mkdir -p "${archive%/*}" && cp "$made" "$archive" || give_up "cannot write $archive"
+    echo "$crates $(sha256sum <"$archive")" >"$stamp"
 }
 
 # Writes the boundary decision, out of the original's own text, into a folder.
