@@ -3,7 +3,10 @@
 
 Usage: python3 checks/costs.py                tells whether the table has every crate, its edits and what leans on it
        python3 checks/costs.py --write        writes these anew; the seconds stay
-       python3 checks/costs.py --write LOG    writes the seconds too, out of what the gate or 'rt prove' printed
+       python3 checks/costs.py --write LOG    writes the seconds too, out of what this printed, which proves one crate at a time:
+           bash -c 'RT_JOBS=1 rt ci --anew | while IFS= read -r line; do echo "$SECONDS $line"; done' >LOG
+
+A crate that was not timed has a dash in the place of its seconds, and a sum that lacks it a plus behind.
 
 Status 0 where the table is right or was written, 1 where it is not, or LOG has no time of a crate, 2 where the words were not understood.
 """
@@ -24,7 +27,7 @@ def read(path):
 
 def listed():
     """For each crate of crates.txt, in its order, what it lists of the others."""
-    rows = re.findall(r"^(\w+):([^#\n]*)", read("crates.txt"), re.M)
+    rows = re.findall(r"^(\w+)(?: staticlib)?:([^#\n]*)", read("crates.txt"), re.M)
     names = {name for name, _ in rows}
     return {name: [lean for lean in leans.split() if lean in names] for name, leans in rows}
 
@@ -51,14 +54,19 @@ def table(seconds):
         users = [crate for crate, below in leans.items() if name in below]
         again = above(name, leans)
         named = f"{len(users)} crates" if len(users) > MANY else ", ".join(users) or "none"
-        total = sum(seconds[crate] for crate in {name, *again}) if {name, *again} <= seconds.keys() else "–"
+        timed = {name, *again} & seconds.keys()
+        total = f"{sum(seconds[crate] for crate in timed)}{'+' * (timed != {name, *again})}" if timed else "–"
         rows.append(f"| {name} | {seconds.get(name, '–')} | {edits(name)} | {named} | {len(again)} | {total} |\n")
     return HEAD + "".join(rows)
 
 
 def told(log, leans):
-    """The seconds of each crate's proof, as a log tells them."""
-    seconds = {name: int(took) for name, took in re.findall(r"^rt: (\w+) proved \((\d+) s\)", log, re.M)}
+    """The seconds of each crate's proof, as a log tells them: it begins when the one before it has ended."""
+    seconds, before = {}, 0
+    for at, name, of_tests in re.findall(r"^(\d+) rt: (\w+)(: its tests are)? proved$", log, re.M):
+        if not of_tests:
+            seconds[name] = int(at) - before
+        before = int(at)
     missing = [name for name in leans if name not in seconds]
     if missing:
         sys.exit(f"costs.py: the log has no time of {', '.join(missing)}; {PAGE} was left as it was")

@@ -7,8 +7,8 @@ The last line counts what was looked at.
 - A line of code (crates/*/src), of a definition (crates/*/specs) or of a document (README.md, docs, host/README.md) has at most 160
   columns. A line of a document that stands in for what a program prints, four blanks before it, may be longer, and so may a table's row.
 - A file of definitions or proofs begins with a comment that says what it holds; a list of modules (Lib.antt) needs none.
-- crates.txt lists for each crate what its sources name: `name::` in code, `Rattle·name.` in definitions and proofs. A crate that a
-  source does not name is listed only where the remark says what it is there for, as `sentence for ..`.
+- crates.txt lists for each crate what its sources name: `name::` in code, `Rattle.name.` in clauses, definitions and proofs. A crate that a
+  source does not name is listed only where the remark says what it is there for, as `sentence for ..`. Each line is a crate's or a remark.
 """
 import os
 import re
@@ -41,17 +41,22 @@ def headless(paths, faults):
 def named(crate):
     """The crates that the sources of a crate name."""
     names = set()
-    for path in glob(f"crates/{crate}/**/*.antt", recursive=True):
-        names |= set(re.findall(r"Rattle·(\w+)\.", read(path)))
+    for folder in "specs", "proofs":
+        for path in glob(f"crates/{crate}/{folder}/**/*.antt", recursive=True):
+            names |= set(re.findall(r"(?<![\w.])Rattle\.(\w+)\.", read(path)))
     for path in glob(f"crates/{crate}/src/**/*.rt", recursive=True):
         text = read(path)
-        names |= set(re.findall(r"Rattle·(\w+)\.", text)) | set(re.findall(r"(?<![\w:])(\w+)::", re.sub(r"//.*", "", text)))
+        names |= set(re.findall(r"(?<![\w.])Rattle\.(\w+)\.", text)) | set(re.findall(r"(?<![\w:])(\w+)::", re.sub(r"//.*", "", text)))
     return names
 
 
 def listed(faults):
     """What crates.txt lists against what is named."""
-    rows = [re.fullmatch(r"(\w+):([^#]*)(?:#(.*))?", line) for line in read("crates.txt").split("\n")]
+    rows = []
+    for number, line in enumerate(read("crates.txt").split("\n"), 1):
+        rows.append(re.fullmatch(r"(\w+)(?: staticlib)?:([^#]*)(?:#(.*))?", line))
+        if not rows[-1] and line.strip() and not line.startswith("#"):
+            faults.append(f"crates.txt:{number}: it is neither a crate's line, NAME: or NAME staticlib: and what it lists, nor a remark")
     crates = {row[1] for row in rows if row}
     for row in filter(None, rows):
         crate, leans, remark = row[1], row[2].split(), row[3] or ""

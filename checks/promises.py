@@ -13,9 +13,11 @@ is public.
   with several, and below it the items `- promise:`, `- settled by:`, `- ruled out:` and `- compared by:`. An internal one stands in an item of the section
   'Internal', with one or more names in backquotes before its colon. A name in such a place that is no function is a fault.
 - A public function has no `requires`, and an `ensures`. Its block says under 'settled by' that the equation settles it, or which law does.
+- A function of a crate NAME_c, which offers the functions of the crate NAME to C, has the parameters and the clauses of the function of its name in
+  NAME, word for word, and each function of NAME that is public has one.
 - An edit is cited as `crate/name`, in any item or table, and stands in crates/CRATE/must-fail or crates/CRATE/must-fail-further. Each edit
   that stands there is cited at least once. Under 'ruled out', and where an item's label or a column's heading speaks of edits, what parentheses hold
-  in backquotes is an edit.
+  in backquotes is an edit. Its name without the crate is a fault, but where a name that is the same is cited of a module.
 - Where `(crate, Module)` is cited, crates/CRATE has specs/Module.antt or proofs/Module.antt, and a name in backquotes right before it
   stands there; of an equation, the name behind its sign.
 
@@ -29,6 +31,7 @@ from glob import glob
 PAGE = "docs/PROMISES.md"
 PUBLIC, INTERNAL = "Public functions", "Internal"
 LABELS = "promise", "settled by", "ruled out", "compared by"
+CITED = r"((?:`[^`]+`(?:, (?:and )?| and )?)+) \(([a-z]\w*), ([A-Z]\w*)\)"
 QUALIFIERS = r'(?:const\s+|unsafe\s+|extern\s+"C"\s+)*'
 
 
@@ -36,7 +39,7 @@ class Function:
     """A `pub fn`: where it stands, and what it says."""
 
     def __init__(self, place, internal, heading):
-        self.place, self.internal = place, internal
+        self.place, self.internal, self.says = place, internal, re.sub(r"\s+|,(?=\s*\))", "", heading.partition("(")[2])
         self.assumes, self.promises = (re.search(rf"\b{word}\b", heading) for word in ("requires", "ensures"))
 
 
@@ -53,7 +56,7 @@ def plain(text):
 def heading(text, at):
     """What stands between a function's name and its body: the first brace that opens and is no contract's."""
     while True:
-        found = re.compile(r"(\brequires\b|\bensures\b)?\s*\{").search(text, at)
+        found = re.compile(r"(\b(?:requires|ensures)\b\*?(?:\s+\w+)?)?\s*\{").search(text, at)
         if not found or not found.group(1):
             return found.start() if found else len(text)
         depth, at = 1, found.end()
@@ -74,6 +77,22 @@ def owners(text):
         yield found.end(), at, named.strip().split("::")[-1].strip()
 
 
+def named(used):
+    """Each path that a `use` names, by its steps: the names in braces one by one, and the name that is used where `as` gives another."""
+    head, brace, inner = used.partition("{")
+    before = [step.strip() for step in head.split("::")]
+    if not brace:
+        return [[*before[:-1], before[-1].split(" as ")[0].strip()]]
+    found, depth, at = [], 0, 0
+    inner = inner.rstrip().removesuffix("}") + ","
+    for i, sign in enumerate(inner):
+        depth += {"{": 1, "}": -1}.get(sign, 0)
+        if sign == "," and not depth:
+            found += [[*before[:-1], *path] for path in named(inner[at:i])] if inner[at:i].strip() else []
+            at = i + 1
+    return found
+
+
 def modules_of(crate, path):
     """The module that a source file is: its path below src, without lib.rt and main.rt."""
     parts = os.path.relpath(path, os.path.join("crates", crate, "src"))[: -len(".rt")].split(os.sep)
@@ -89,14 +108,14 @@ def sources(faults):
         program = os.path.exists(f"crates/{crate}/src/main.rt")
         handed = set()
         for modules, (path, text) in texts.items():
-            for used in re.findall(r"^[ \t]*pub\s+use\s+([\w:]+)(?=\s*;|\s+as\b)", text, re.M):
-                parts = [w for w in used.split("::")]
-                start = (crate,) if parts[0] == "crate" else modules
-                handed.add((*start, *[w for w in parts if w not in ("crate", "self")]))
+            for used in re.findall(r"^[ \t]*pub\s+use\s+([^;]*);", text, re.M):
+                for parts in named(used):
+                    start = (crate,) if parts[0] == "crate" else modules
+                    handed.add((*start, *[w for w in parts if w not in ("crate", "self")]))
             if re.search(r"^[ \t]*(?:pub\s+)?mod\s+\w+\s*\{", text, re.M):
                 faults.append(f"{path}: a module in braces; checks/promises.py knows only modules in files")
-            if re.search(r"^[ \t]*pub\s+use\s+[^;]*[{*]", text, re.M):
-                faults.append(f"{path}: `pub use` of several names; checks/promises.py knows only one name to a `pub use`")
+            if re.search(r"^[ \t]*pub\s+use\s+[^;]*\*", text, re.M):
+                faults.append(f"{path}: `pub use` of all names; checks/promises.py knows only names that stand there")
         for modules, (path, text) in texts.items():
             impls = list(owners(text))
             for found in re.finditer(r"^[ \t]*pub\s+" + QUALIFIERS + r"fn\s+(\w+)", text, re.M):
@@ -224,6 +243,19 @@ def compare_functions(said, functions, faults):
             faults.append(f"{f.place}: `{name}` is public and has no `ensures`: give it one, or move the function to a module `unchecked`")
 
 
+def compare_clauses(functions, faults):
+    """The functions that are offered to C against those that they stand for."""
+    crates = {name.split("::")[0] for name in functions}
+    for name, f in sorted(functions.items()):
+        crate, _, path = name.partition("::")
+        if crate.endswith("_c") and crate[:-2] in crates:
+            stands_for = functions.get(f"{crate[:-2]}::{path}")
+            if not stands_for or stands_for.says != f.says:
+                faults.append(f"{f.place}: `{name}` has not the parameters and the clauses of `{crate[:-2]}::{path}`: write them word for word")
+        elif f"{crate}_c" in crates and not f.internal and f"{crate}_c::{path}" not in functions:
+            faults.append(f"{f.place}: `{name}` is public, and there is no `{crate}_c::{path}`, which offers it to C")
+
+
 def compare_edits(said, faults):
     """The edits that are cited against those that stand in the folders."""
     stand = {}
@@ -239,6 +271,7 @@ def compare_edits(said, faults):
         if one.kind not in ("item", "cell"):
             continue
         of_edits = one.label == "ruled out" or re.search(r"\bedits?\b", one.label)
+        of_modules = {name for cited, _, _ in re.findall(CITED, one.text) for name in quoted(cited)}
         held = {q for part in re.findall(r"\(([^()]*)\)", one.text) for q in quoted(part)} if of_edits else set()
         for name in quoted(one.text):
             if re.fullmatch(r"[a-z]\w*/\w+", name) and name.split("/")[0] not in ("crates", "host"):
@@ -248,7 +281,7 @@ def compare_edits(said, faults):
                     faults.append(
                         f"{one.at}: the edit `{name}` is cited, and there is no {edit}.edit in crates/{crate}/must-fail or crates/{crate}/must-fail-further"
                     )
-            elif name in bare:
+            elif name in bare - of_modules:
                 faults.append(f"{one.at}: the edit `{name}` is cited without its crate: write `crate/{name}`")
             elif name in held:
                 faults.append(f"{one.at}: `{name}` stands where an edit is cited, and is none: write `crate/name` of one that is there")
@@ -271,11 +304,11 @@ def compare_modules(said, faults):
         for crate, name in re.findall(r"[(;] ?([a-z]\w*), ([A-Z]\w*)", one.text):
             if module(crate, name) is None:
                 faults.append(f"{one.at}: ({crate}, {name}) is cited, and crates/{crate} has neither specs/{name}.antt nor proofs/{name}.antt")
-        for cited, crate, name in re.findall(r"((?:`[^`]+`(?:, (?:and )?| and )?)+) \(([a-z]\w*), ([A-Z]\w*)\)", one.text):
+        for cited, crate, name in re.findall(CITED, one.text):
             for word in quoted(cited):
                 names += 1
                 word = word.split("≡")[-1].split()[0]
-                if not re.search(rf"(?<![\w′-]){re.escape(word)}(?![\w′-])", module(crate, name) or ""):
+                if not re.search(rf"(?<![\w'-]){re.escape(word)}(?![\w'-])", module(crate, name) or ""):
                     faults.append(f"{one.at}: `{word}` is cited of ({crate}, {name}), and does not stand there: name where it is defined")
     return names
 
@@ -287,6 +320,7 @@ def main():
         said = statements(file.read())
     functions = sources(faults)
     compare_functions(said, functions, faults)
+    compare_clauses(functions, faults)
     edits = compare_edits(said, faults)
     names = compare_modules(said, faults)
     for fault in faults:
