@@ -6,10 +6,10 @@ top=$(cd "$(dirname "${BASH_SOURCE[0]}")/.." && pwd)
 work=$(mktemp -d) || exit 2
 trap 'rm -rf "$work"' EXIT
 here=$work/here cases=0
-mkdir -p "$work"/{bin,tools,away,tmp,home,debian/bin,sources} "$here"/{checks,crates/one}
-cp -R "$top/test.sh" "$top/notes.sh" "$top/.ci" "$top/host" "$here/"
+mkdir -p "$work"/{bin,tools,away,tmp,home,debian/bin,sources} "$here"/{checks,crates/one,crates/exports_c}
+cp -R "$top/test.sh" "$top/further.sh" "$top/notes.sh" "$top/.ci" "$top/host" "$here/"
 mv "$here/host/check.sh" "$here/host/whole.sh"
-echo 'one: # a crate' >"$here/crates.txt"
+printf 'one: # a crate\nexports_c staticlib: one\n' >"$here/crates.txt"
 echo 'Proved with: `kit 1`.' >"$here/README.md"
 echo '// no code' >"$work/sources/sentence.rs"
 printf '        for (b, s) in sentence\n        sentence.set_predictor(self);\n' >"$work/sources/predictor.rs"
@@ -34,14 +34,20 @@ CHECKS
 stand_in "$work/bin/rt" <<'RT'
 case $1 in
 version) echo "$KIT" ;;
-staticlib)
-    echo 'rt: a word on staticlib'
-    echo 'rt: one proved (1 s)'
-    mkdir -p target/staticlib
-    [ "$RT_EXIT" != 0 ] || echo '' >"target/staticlib/lib$2.a"
+lib)
+    echo 'rt: a word on the library'
+    echo 'crate one: modules loaded=1 checked=2'
+    echo 'logic=proved functions=3'
+    mkdir -p out
+    [ "$RT_EXIT" != 0 ] || echo '' >"out/lib${PWD##*/}.a"
     exit "$RT_EXIT"
     ;;
-*) printf "$RT_SAYS"; exit "$RT_EXIT" ;;
+*)
+    [ "$*" = ci ] || [ "$*" = must-fail ] || { echo "rt: it is called with other words: $*" && exit 3; }
+    [ -f crates.txt ] && [ -d crates ] || { echo 'rt: it is called in another folder' && exit 3; }
+    printf "$RT_SAYS"
+    exit "$RT_EXIT"
+    ;;
 esac
 RT
 stand_in "$work/bin/apt-get" <<'APT'
@@ -52,7 +58,6 @@ rustc,*\ rustc-web*) cp "$AWAY/rustc" "$IGHDELMUR_USR/bin/rustc"; cp "$AWAY/rust
 esac
 APT
 stand_in "$work/bin/rustc" <<<'if [ "$1" = --version ]; then echo "$RUSTC"; else echo "error: a word of the compiler"; exit 1; fi'
-stand_in "$work/bin/dpkg" <<<'echo "dpkg $*" >>"$CALLED"'
 stand_in "$work/bin/id" <<<'echo "$USER_ID"'
 stand_in "$work/bin/uname" <<<'echo "$MACHINE"'
 for name in rustdoc cc; do stand_in "$work/bin/$name" <<<'exit 1'; done
@@ -68,7 +73,7 @@ run() {
     got=0
     text=$(cd / && env -i PATH="$work/bin:$work/tools" HOME="$work/home" TMPDIR="$work/tmp" CALLED="$work/called" AWAY="$work/away" \
         IGHDELMUR_USR="$work/debian" VAPORETTO_SRC="$work/sources" KIT='kit 1' RUSTC='rustc 1.83.0 (x)' MACHINE=x86_64 USER_ID=0 APT_GIVES= \
-        RT_SAYS='x\n3 passed, 0 failed\n' RT_EXIT=0 CHECKS_SAYS='z\n5 passed, 0 failed\n' CHECKS_EXIT=0 \
+        RT_SAYS='x\nrt: ok; must-fail edits: 2 refused\n3 passed, 0 failed\n' RT_EXIT=0 CHECKS_SAYS='z\n5 passed, 0 failed\n' CHECKS_EXIT=0 \
         HOST_SAYS='y\n2 passed, 0 failed\n' HOST_EXIT=0 "$@" </dev/null 2>&1) || got=$?
     for name in ${without-}; do mv "$work/away/$name" "$work/bin/"; done
     cases=$((cases + 1))
@@ -125,12 +130,19 @@ expect 'a failure with status 0' 1 '9 passed, 1 failed' '' x RT_SAYS='x\n2 passe
 expect 'rt stops short' 1 '7 passed, 1 failed' '' 'rt ci' RT_SAYS='x\n' RT_EXIT=2
 expect 'rt says nothing' 1 '7 passed, 1 failed' '' 'rt ci' RT_SAYS=
 expect 'rt fails against its count' 1 '10 passed, 1 failed' '' 'rt ci' RT_EXIT=1
+expect 'words behind the last line of rt' 0 '10 passed, 0 failed' '2 passed' x RT_SAYS='x\nrt: ok; must-fail edits: 2 refused\n3 passed, 0 failed (some words)\n'
+expect 'other words behind the last line of rt' 1 '7 passed, 1 failed' '' 'rt ci' RT_SAYS='x\nrt: ok; must-fail edits: 2 refused\n3 passed, 0 failed or so\n'
+expect 'no edit' 0 '10 passed, 0 failed' '2 passed' x RT_SAYS='x\nrt: ok; all was done\n3 passed, 0 failed\n'
+expect 'an edit that is no edit of its crate' 1 '10 passed, 1 failed' '2 passed' 'of the must-fail edits, 1 bad' RT_SAYS='rt: ok; must-fail edits: 2 refused, 1 bad; x\n3 passed, 0 failed\n'
+expect 'ten such edits' 1 '10 passed, 1 failed' '2 passed' ', 10 bad' RT_SAYS='rt: ok; must-fail edits: 2 refused, 1 of them only by a limit, 10 bad; x\n3 passed, 0 failed\n'
+expect 'no such edit, and a count of them' 0 '10 passed, 0 failed' '2 passed' x RT_SAYS='x\nrt: ok; must-fail edits: 2 refused, 0 bad; x\n3 passed, 0 failed\n'
+expect 'rt sums up nothing' 1 '10 passed, 1 failed' '' "rt ci has no line that begins with 'rt: ok'" RT_SAYS='x\n3 passed, 0 failed\n'
 expect 'a check fails' 1 '9 passed, 1 failed' '' z CHECKS_SAYS='z\n4 passed, 1 failed\n' CHECKS_EXIT=1
 expect 'the checks stop short' 1 '5 passed, 1 failed' '' checks/run.sh CHECKS_SAYS='z\n' CHECKS_EXIT=2
 expect 'the checks fail against their count' 1 '10 passed, 1 failed' '' checks/run.sh CHECKS_EXIT=1
 expect 'the host stops short' 1 '8 passed, 1 failed' '' host/check.sh HOST_SAYS='2 passed, 0 failed\ny\n'
 expect 'the host fails' 1 '9 passed, 1 failed' '' y HOST_SAYS='y\n1 passed, 1 failed\n' HOST_EXIT=1
-expect 'nothing passed' 1 '0 passed, 1 failed' 'nothing was checked' '' RT_SAYS='0 passed, 0 failed\n' CHECKS_SAYS='0 passed, 0 failed\n' HOST_SAYS='0 passed, 0 failed\n'
+expect 'nothing passed' 1 '0 passed, 1 failed' 'nothing was checked' '' RT_SAYS='rt: ok\n0 passed, 0 failed\n' CHECKS_SAYS='0 passed, 0 failed\n' HOST_SAYS='0 passed, 0 failed\n'
 
 # What the Rust part lacks is a failure that says so, and only what is missing is installed.
 host=no
@@ -146,9 +158,8 @@ without=python3 installs=yes expect 'python3 missing' 1 '8 passed, 1 failed' "$h
 without=rustc expect 'the compiler missing, and another user' 1 '8 passed, 1 failed' "$hint" 'only root' USER_ID=1000
 without='rustc apt-get' expect 'the compiler missing, and no apt-get' 1 '8 passed, 1 failed' "$hint" 'there is no apt-get'
 without='rustc python3' expect 'the compiler missing, and nothing to be installed' 1 '8 passed, 1 failed' "$hint" 'IGHDELMUR_INSTALL=no' IGHDELMUR_INSTALL=no
-installs=yes expect 'an Arm machine without the packages' 1 '8 passed, 1 failed' "$hint" 'emulator for x86-64' MACHINE=aarch64
-expect 'an Arm machine, and another user' 1 '8 passed, 1 failed' "$hint" 'only root' MACHINE=aarch64 USER_ID=1000
-expect 'another machine' 1 '8 passed, 1 failed' "$hint" 'this is riscv64' MACHINE=riscv64
+expect 'an Arm machine' 1 '8 passed, 1 failed' "$hint" 'the kit and the port'\''s static library are for x86-64 alone, and this is aarch64' MACHINE=aarch64
+without='rustc cc' expect 'another machine without a compiler' 1 '8 passed, 1 failed' "$hint" 'this is riscv64' MACHINE=riscv64
 expect 'a failure before what is missing' 1 '7 passed, 2 failed' "$hint" x VAPORETTO_SRC="$work/none" RT_SAYS='x\n2 passed, 1 failed\n' RT_EXIT=1
 without=rt expect 'rt missing' 1 '0 passed, 1 failed' 'nothing else was run' "rt, the kit's command"
 
@@ -163,12 +174,6 @@ unset word host
 
 # What is missing and can be installed is, and then the host is run.
 without=rustc installs=yes expect 'a compiler installed' 0 '10 passed, 0 failed' '' 'rustc-web' APT_GIVES=rustc
-mkdir -p "$work/debian/lib/rustlib/x86_64-unknown-linux-gnu/lib" "$work/debian/x86_64-linux-gnu/lib"
-touch "$work/debian/lib/rustlib/x86_64-unknown-linux-gnu/lib/libstd-1.rlib" "$work/debian/x86_64-linux-gnu/lib/Scrt1.o"
-for name in rustc rustdoc; do cp "$work/bin/rustc" "$work/debian/bin/$name"; done
-stand_in "$work/debian/bin/qemu-x86_64" <<<'exit 1'
-stand_in "$work/bin/x86_64-linux-gnu-gcc" <<<'exit 1'
-expect 'an Arm machine with all that is needed' 0 '10 passed, 0 failed' '2 passed' y MACHINE=aarch64
 
 # The words of test.sh.
 for said in 'usage: bash test.sh' '--without-rust' VAPORETTO_SRC python3 'minutes on two processors' 'installed' 'Status 0'; do
@@ -177,6 +182,20 @@ done
 ends 'an unknown word' 2 "there is no '--quick'" bash "$here/test.sh" --quick
 ends 'an unknown word behind another' 2 "there is no 'more'" bash "$here/test.sh" --without-rust more
 
+# The edits that the gate leaves out.
+set -- bash "$here/further.sh"
+mkdir -p "$here"/crates/one/{must-fail,must-fail-further,out}
+touch "$here"/crates/one/must-fail/other.edit "$here"/crates/one/must-fail-further/{a,b}.edit "$here/crates/one/out/large"
+refused='rt: must-fail one/a.edit: refused, as it must be: x\n'
+ends 'all further edits refused' 0 'further.sh: 2 edits, 2 refused' RT_SAYS="$refused$refused" "$@"
+ends 'a further edit not refused' 1 'further.sh: 2 edits, 1 refused' RT_SAYS="${refused}rt: must-fail one/b.edit: NOT REFUSED: x\n" RT_EXIT=1 "$@"
+ends 'a further edit of which nothing is said' 1 'further.sh: 2 edits, 1 refused' RT_SAYS="$refused" "$@"
+rm "$here"/crates/one/must-fail-further/*
+ends 'no further edit' 1 'further.sh: 0 edits, 0 refused' RT_SAYS= "$@"
+ends 'the help of the further edits' 0 'usage: bash further.sh' "$@" --help
+ends 'a word for the further edits' 2 'further.sh: it takes no argument but --help: one' "$@" one
+rm -r "$here"/crates/one/{must-fail,must-fail-further,out}
+
 # The host's own part, for want of something.
 without=rt ends 'the host without rt' 1 "host: FAILED: nothing was run, for this is missing: rt, the kit's command" bash "$here/host/whole.sh"
 without=python3 installs=yes ends 'the host without python3' 1 'nothing was run, for this is missing: python3' bash "$here/host/whole.sh"
@@ -184,7 +203,7 @@ without=rustc installs=yes ends 'the host without a compiler' 1 'nothing was run
 ends 'the host without the sources' 1 $'VAPORETTO_SRC to the folder vaporetto/src of a checkout)\n0 passed, 1 failed' VAPORETTO_SRC="$work/none" bash "$here/host/whole.sh"
 
 # The words of the host's scripts, and what they cannot do: status 2, and a line that says so.
-for name in build check-test count example interrupted link loader native record sizes whole withhold; do
+for name in build check-test count example interrupted library link loader record sizes whole withhold; do
     ends "$name with an unknown word" 2 "host/$name.sh: there is no '--more'" bash "$here/host/$name.sh" --more
     ends "the help of $name" 0 'Status 0: ' bash "$here/host/$name.sh" --help
 done
@@ -198,7 +217,7 @@ for words in 'both.sh check' link.sh; do
     without=rt ends "$words without rt" 2 "this is missing: rt, the kit's command" "$@"
     without=rustc installs=yes ends "$words without a compiler" 2 'this is missing: rustc 1.83' "$@"
     rm -rf "$here/target"
-    ends "$words where rt fails" 2 $'a word on staticlib\nrt: one proved (1 s)\nhost/link.sh: \'rt staticlib exports\' failed' RT_EXIT=1 "$@"
+    ends "$words where rt fails" 2 $'a word on the library\ncrate one: modules loaded=1 checked=2\nlogic=proved functions=3\nhost/link.sh: \'rt lib\' in crates/exports_c failed' RT_EXIT=1 "$@"
     ends "$words where the compiler fails" 2 $'a word of the compiler\nhost/link.sh: the compiler failed' "$@"
 done
 rm -rf "$here/target"
@@ -210,12 +229,12 @@ for words in build.sh 'record.sh --check'; do
     without=rustc installs=yes ends "$words without a compiler" 2 'this is missing: rustc 1.83' "$@"
     ends "$words where the compiler fails" 2 $'a word of the compiler\nhost/build.sh: the compiler failed' "$@"
 done
-for name in count example loader withhold; do
+for name in count example library loader withhold; do
     set -- bash "$here/host/$name.sh"
     rm -rf "$here/target"
     without=rt ends "$name without rt" 2 "this is missing: rt, the kit's command" "$@"
-    ends "$name where rt fails" 2 $'a word on staticlib\nrt: one proved (1 s)\nhost/'"$name.sh: 'rt staticlib exports' failed" RT_EXIT=1 "$@"
-    ends "$name where the compiler fails" 2 'the compiler of C failed' "$@"
+    ends "$name where rt fails" 2 $'a word on the library\ncrate one: modules loaded=1 checked=2\nlogic=proved functions=3\nhost/'"$name.sh: 'rt lib' in crates/exports_c failed" RT_EXIT=1 "$@"
+    [ "$name" = library ] || ends "$name where the compiler fails" 2 'the compiler of C failed' "$@"
 done
 without=python3 ends 'withhold without python3' 2 'this is missing: python3' bash "$here/host/withhold.sh"
 # The desk: its words, and what is missing. Only `compare` needs the original.
@@ -229,9 +248,8 @@ done
 rm -rf "$here/target"
 without=rt ends 'the desk without rt' 2 "notes.sh: this is missing: rt, the kit's command" VAPORETTO_SRC="$work/none" "$@" check raw /dev/null
 without=rustc installs=yes ends 'the desk without a compiler' 2 'this is missing: rustc 1.83' "$@" check raw /dev/null
-installs=yes ends 'the desk on an Arm machine without the packages' 2 'this is missing: a compiler and an emulator for x86-64' MACHINE=aarch64 IGHDELMUR_USR="$work/none" "$@" check raw /dev/null
 ends 'the desk on another machine' 2 'this is riscv64' MACHINE=riscv64 "$@" check raw /dev/null
-ends 'the desk where rt fails' 2 $'a word on staticlib\nrt: one proved (1 s)\nnotes.sh: \'rt staticlib exports\' failed' RT_EXIT=1 "$@" check raw /dev/null
+ends 'the desk where rt fails' 2 $'a word on the library\ncrate one: modules loaded=1 checked=2\nlogic=proved functions=3\nnotes.sh: \'rt lib\' in crates/exports_c failed' RT_EXIT=1 "$@" check raw /dev/null
 ends 'the desk where the compiler fails' 2 $'a word of the compiler\nnotes.sh: the compiler failed' "$@" check raw /dev/null
 ends 'the desk that is not built' 2 'notes.sh: it could not be built, for the reason above; nothing was done' "$@" check raw /dev/null
 ends 'compare without the sources' 2 'VAPORETTO_SRC' VAPORETTO_SRC="$work/none" "$@" compare raw /dev/null
@@ -239,27 +257,21 @@ ends 'compare where the compiler fails' 2 $'a word of the compiler\nhost/link.sh
 set -- bash "$here/host/count.sh"
 without=valgrind installs=yes ends 'count without valgrind' 2 "this is missing: valgrind (install Debian's package valgrind; apt-get update failed" "$@"
 without=valgrind ends 'count without valgrind, and another user' 2 'only root' USER_ID=1000 "$@"
-installs=yes ends 'count on an Arm machine without the packages' 2 'this is missing: a compiler and an emulator for x86-64' MACHINE=aarch64 "$@"
 ends 'count on another machine' 2 'this is riscv64' MACHINE=riscv64 "$@"
 ends 'count with a folder that has no library' 2 "there is no libexports.a or libconvert.a in $work/none" "$@" "$work/none"
 ends 'count with a word too many' 2 "there is no 'more'" "$@" "$work/none" more
 set -- bash "$here/host/sizes.sh"
 rm -rf "$here/target"
 without=rt ends 'sizes without rt' 2 "this is missing: rt, the kit's command" "$@"
-ends 'sizes where rt fails' 2 $'a word on staticlib\nrt: one proved (1 s)\nhost/sizes.sh: \'rt staticlib exports\' failed' RT_EXIT=1 "$@"
+ends 'sizes where rt fails' 2 $'a word on the library\ncrate one: modules loaded=1 checked=2\nlogic=proved functions=3\nhost/sizes.sh: \'rt lib\' in crates/exports_c failed' RT_EXIT=1 "$@"
 ends 'sizes on another machine' 2 'this is riscv64' MACHINE=riscv64 "$@"
 ends 'sizes with a folder that has no library' 2 "there is no libexports.a in $work/none" "$@" "$work/none"
 ends 'sizes with a word too many' 2 "there is no 'more'" "$@" "$work/none" more
-set -- bash "$here/host/native.sh"
-ends 'native on an x86-64 machine' 2 'this is for an Arm machine, and this is x86_64: on x86-64 host/both.sh bench has no emulator' "$@"
-without=rt ends 'native without rt' 2 "this is missing: rt, the kit's command" MACHINE=aarch64 "$@"
-ends 'native without the sources' 2 'VAPORETTO_SRC' MACHINE=aarch64 VAPORETTO_SRC="$work/none" "$@"
-without=rustc installs=yes ends 'native without a compiler' 2 'this is missing: rustc 1.83' MACHINE=aarch64 "$@"
-rm -rf "$here/target"
-ends 'native where rt fails' 2 $'a word on staticlib\nrt: one proved (1 s)\nhost/native.sh: \'rt staticlib exports\' failed' MACHINE=aarch64 RT_EXIT=1 "$@"
 set -- bash "$here/host/count.sh"
 stand_in "$work/bin/cc" <<<'exit 0'
 ends 'count with a program that cannot be run' 2 'the type of each character, a call for each, notes P: the program failed with status 127' "$@"
+ends 'the library that is built' 0 "$here/target/staticlib/libexports.a" bash "$here/host/library.sh"
+ends 'the library on another machine' 2 'this is riscv64' MACHINE=riscv64 bash "$here/host/library.sh"
 ends 'withhold where a copy is another' 1 'a word of python3' bash "$here/host/withhold.sh"
 
 # The desk's program: built where it is not there or a source is newer, and how it ends.
@@ -277,7 +289,7 @@ done
 RUSTC
 ends 'the desk where the compiler writes nothing' 2 "cannot write $here/target/host/notes/notes" LEFT_OUT=notes "$@"
 rm -rf "$here/target"
-ends 'the desk at the first call' 0 "$built"$'\nrt: one proved (1 s)\nasked check raw /dev/null' PROGRAM_EXIT=0 "$@"
+ends 'the desk at the first call' 0 "$built"$'\nrt: one proved\nasked check raw /dev/null' PROGRAM_EXIT=0 "$@"
 without='rt rustc cc' ends 'the desk at the second call' 0 'asked check' PROGRAM_EXIT=0 "$@"
 [ "$text" = 'asked check raw /dev/null' ] || wrong 'the desk at the second call' 'it says more'
 ends 'the desk that finds something' 1 'asked check' PROGRAM_EXIT=1 "$@"

@@ -3,7 +3,7 @@
 
 Usage: python3 host/against.py ARCHIVES [ROUNDS]
 
-ARCHIVES is a folder with the libexports.a of an earlier state; the one at hand is target/staticlib/libexports.a, which `rt staticlib exports` makes.
+ARCHIVES is a folder with the libexports.a of an earlier state; the one at hand is target/staticlib/libexports.a, which host/library.sh makes.
 Both are linked into host/against.c. For each line of host/samples/counted.txt, and for lines of up to 4,096 bytes put together from its notes, it
 calls the one and the other in turn, ROUNDS times each (300 where it is left out), and takes the fewest ticks of the processor's clock. Where code
 lies in memory makes some per cent of difference, so the program is linked at twenty places and in both orders, and geometric means of the
@@ -95,7 +95,7 @@ def main():
         print(__doc__.strip(), file=sys.stderr)
         sys.exit(2)
     if platform.machine() != "x86_64":
-        give_up(f"this is for an x86-64 machine, and this is {platform.machine()}: host/count.sh counts instructions on both")
+        give_up(f"this is for an x86-64 machine, and this is {platform.machine()}: the port's static library is for x86-64 alone")
     earlier, rounds = os.path.join(words[0], "libexports.a"), int(words[1]) if words[1:] else 300
     for archive in earlier, NOW:
         if not os.path.isfile(archive):

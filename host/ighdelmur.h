@@ -1,4 +1,4 @@
-/* The port for a host in C on x86-64: all calls of the one static library to link, target/staticlib/libexports.a, which `rt staticlib exports` makes.
+/* The port for a host in C on x86-64: all calls of the one static library to link, target/staticlib/libexports.a, which `host/library.sh` makes.
  * sides/port.rs declares the same for Rust.
  *
  * A slice is a pointer and a length in elements. A pointer is never null, also where its length is 0, and a slice that a call writes into

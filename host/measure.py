@@ -2,9 +2,9 @@
 
     python3 host/measure.py [N]      N notes of 200 bytes on average; 1,000,000 where it is left out
 
-It builds what it needs: on an x86-64 machine by host/link.sh and notes.sh, on an Arm one by host/native.sh, without an emulator. The notes are drawn by
-host/both.sh notes, and kept in target/host/measure. Memory is the most that one process of a job had, time is that of all its processes. What the jobs
-find is held to each other. Status 0: the table is printed; 1: two jobs do not find the same; 2: it could not be measured.
+It builds what it needs by host/link.sh and notes.sh. The notes are drawn by host/both.sh notes, and kept in target/host/measure. Memory is the most that
+one process of a job had, time is that of all its processes. What the jobs find is held to each other. Status 0: the table is printed; 1: two jobs do not
+find the same; 2: it could not be measured.
 """
 import os
 import platform
@@ -21,10 +21,6 @@ GROUPS = ["awk", "-F", "\t", "$1 == key { if (!open) { print row; groups++; open
 
 def programs():
     """The programs, built: both sides, and the desk."""
-    if platform.machine() == "aarch64":
-        subprocess.run(["bash", f"{TOP}/host/native.sh", "--build"], check=True)
-        folder = f"{TOP}/target/host/native"
-        return f"{folder}/both", f"{folder}/notes"
     subprocess.run(["bash", f"{TOP}/host/link.sh"], check=True)
     subprocess.run(["bash", f"{TOP}/notes.sh", "check", "raw", "/dev/null"], check=True)
     return f"{TOP}/target/host/x86/both", f"{TOP}/target/host/notes/notes"

@@ -197,17 +197,9 @@ def whole(words, data):
         return outcome(start(words, stdin=file))
 
 
-@cache
-def emulator():
-    """What runs a program of host/link.sh here."""
-    asked = ["bash", "-c", '. "$0" && find_run && printf "%s\\n" "${run[@]}"', os.path.join(HERE, "tools.sh")]
-    printed = subprocess.run(asked, stdin=subprocess.DEVNULL, capture_output=True, check=True, text=True).stdout
-    return [word for word in printed.split("\n") if word]
-
-
 def program(name, words, data=b"", **more):
     """A run of a program of host/link.sh."""
-    return run(words, data, [*emulator(), os.path.join(PROGRAMS, name)], **more)
+    return run(words, data, [os.path.join(PROGRAMS, name)], **more)
 
 
 def columns(text):
@@ -665,7 +657,7 @@ def changed():
         ("no file", None, f"a {GONE}"),
     ]:
         expect(f"a file that is changed to {name}", changed_to(new, SCRIPT, {}), (b"", said(told), 2))
-    wrong = [*emulator(), os.path.join(PROGRAMS, "wrong", "compare")]
+    wrong = [os.path.join(PROGRAMS, "wrong", "compare")]
     expect("where all keys have one hash, a change is not noticed", changed_to(b"z\ny\n", wrong, {"SPOIL": "hash"})[2], 0)
 
 
@@ -1102,7 +1094,6 @@ def needs():
     for name in ("both", "wrong/compare"):
         if not os.access(os.path.join(PROGRAMS, name), os.X_OK):
             raise OSError(f"this is missing: {os.path.join(PROGRAMS, name)} (host/link.sh builds it)")
-    emulator()
 
 
 main(__doc__, needs, PARTS, "notes.sh", "answers")

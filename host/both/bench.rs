@@ -48,9 +48,7 @@ pub fn command(words: &[&str]) -> Outcome {
         ["--rounds", _, word, ..] | [word, ..] => return Err(Failure::Usage(format!("bench does not know '{word}'"))),
     };
     let mut out = stdout();
-    let emulator = var("EMULATOR").unwrap_or_default();
-    let run_by = if emulator.is_empty() { "no emulator ran it".into() } else { format!("an emulator ran it: {emulator}") };
-    writeln!(out, "Machine: {}; {run_by}.", var("MACHINE").unwrap_or("unknown".into()))?;
+    writeln!(out, "Machine: {}.", var("MACHINE").unwrap_or("unknown".into()))?;
     let heading = "| lines | form | work | Rust ns/line | port ns/line | Rust ns/byte | port ns/byte | ratio |\n|---|---|---|---|---|---|---|---|";
     writeln!(out, "Medians of {rounds} rounds, both sides in turn. No buffer is cleared between lines; the one call of the port makes its own anew each time.\n\n{heading}")?;
     let (mut draw, mut port) = (Draw::new(1), Port::default());

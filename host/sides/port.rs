@@ -5,7 +5,7 @@ use crate::answers::{Answer, Buffers, Form, Lent, Record, Refusal, AMPLE, LONGES
 /// The longest output that the conversion takes.
 pub const LONGEST_OUTPUT: usize = 1 << 20;
 
-/// What the static library of crates/exports offers: a slice is a pointer and a length.
+/// What the static library of crates/exports_c offers: a slice is a pointer and a length.
 mod exported {
     #[link(name = "exports", kind = "static")]
     extern "C" {
