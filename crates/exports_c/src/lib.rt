@@ -48,8 +48,8 @@ pub extern "C" fn ighdelmur_read(
     tag_bytes: &mut [u8],
     numbers: &mut [u64],
 ) -> u64
-    ensures { HostReads form line.now (lent_before text types boundaries char_pos byte_pos cell_starts cell_lengths tag_bytes)
-        numbers.old result (lent_after text types boundaries char_pos byte_pos cell_starts cell_lengths tag_bytes) numbers.new }
+    ensures { HostReads form line.now (lent_before text.old types.old boundaries.old char_pos.old byte_pos.old cell_starts.old cell_lengths.old tag_bytes.old)
+        numbers.old result (lent_after text.new types.new boundaries.new char_pos.new byte_pos.new cell_starts.new cell_lengths.new tag_bytes.new) numbers.new }
 {
     exports::ighdelmur_read(
         form,
@@ -86,7 +86,7 @@ pub extern "C" fn ighdelmur_write(
     out: &mut [u8],
 ) -> u64
     ensures { HostWrites form (record_in n b columns cells g)
-        (lent_before text types boundaries char_pos byte_pos cell_starts cell_lengths tag_bytes) out.old result out.new }
+        (lent_before text.now types.now boundaries.now char_pos.now byte_pos.now cell_starts.now cell_lengths.now tag_bytes.now) out.old result out.new }
 {
     exports::ighdelmur_write(
         form,
@@ -129,7 +129,7 @@ pub extern "C" fn ighdelmur_withhold(
     out: &mut [u8],
 ) -> u64
     ensures { HostWithholds (record_in n b columns cells g)
-        (lent_before text types boundaries char_pos byte_pos cell_starts cell_lengths tag_bytes) start end out.old result
+        (lent_before text.now types.now boundaries.now char_pos.now byte_pos.now cell_starts.now cell_lengths.now tag_bytes.now) start end out.old result
         out.new }
 {
     exports::ighdelmur_withhold(
@@ -171,7 +171,7 @@ pub extern "C" fn ighdelmur_key(
     out: &mut [u8],
 ) -> u64
     ensures { HostKeys (record_in n b columns cells g)
-        (lent_before text types boundaries char_pos byte_pos cell_starts cell_lengths tag_bytes) out.old result out.new }
+        (lent_before text.now types.now boundaries.now char_pos.now byte_pos.now cell_starts.now cell_lengths.now tag_bytes.now) out.old result out.new }
 {
     exports::ighdelmur_key(
         n,
@@ -212,7 +212,7 @@ pub extern "C" fn ighdelmur_next_token(
     span: &mut [u64],
 ) -> u64
     ensures { HostSteps (record_in n b columns cells g)
-        (lent_before text types boundaries char_pos byte_pos cell_starts cell_lengths tag_bytes) p span.old result span.new }
+        (lent_before text.now types.now boundaries.now char_pos.now byte_pos.now cell_starts.now cell_lengths.now tag_bytes.now) p span.old result span.new }
 {
     exports::ighdelmur_next_token(
         n,
