@@ -12,7 +12,7 @@ use test_calls::Found;
 use test_casework::{Sink, within, within16};
 use tokens::{Next, Step, next_token};
 use write::{
-    write_partial_annotation_text as write_partial, write_tokenized_text as write_tokenized,
+    write_partial_annotation_text as partial_text, write_tokenized_text as tokenized_text,
 };
 
 // The cells of a large table, which are read in the buffers: each look-up checks the whole sheet.
@@ -190,8 +190,8 @@ fn write_line(
     room: &mut [u8],
 ) -> Number {
     match writer {
-        b'T' => write_tokenized(r, text, types, marks, chars, bytes, cells, lens, tags, room),
-        _ => write_partial(r, text, types, marks, chars, bytes, cells, lens, tags, room),
+        b'T' => tokenized_text(r, text, types, marks, chars, bytes, cells, lens, tags, room),
+        _ => partial_text(r, text, types, marks, chars, bytes, cells, lens, tags, room),
     }
 }
 
@@ -217,9 +217,9 @@ fn lines_told(
     room: &mut [u8],
     sink: Sink,
 ) -> Sink {
-    let n = write_tokenized(r, text, types, marks, chars, bytes, cells, lens, tags, room);
+    let n = tokenized_text(r, text, types, marks, chars, bytes, cells, lens, tags, room);
     let told = written(n, room, sink);
-    let m = write_partial(r, text, types, marks, chars, bytes, cells, lens, tags, room);
+    let m = partial_text(r, text, types, marks, chars, bytes, cells, lens, tags, room);
     written(m, room, told)
 }
 
