@@ -7,7 +7,7 @@ use mathlib.Core.List.{List}
 use borrow.Author.Tests.{not-false, ltb-false}
 use lib.ListN.{length}
 use Rattle.utf8.specs.Utf8.{scalar, width, size}
-use Rattle.laws.specs.If.{if◌then◌else◌}
+use Rattle.laws.specs.If.{when◌then◌else◌}
 use Rattle.laws.proofs.Facts.{neither}
 use Rattle.sentence.specs.declared.Refusal.{Refusal}
 use Rattle.sentence.specs.Sentence.{Sentence, text, rows, count, text_of, rows_of, cut, row_bytes, tag_bytes, Formed}
@@ -25,7 +25,7 @@ use Rattle.changes.specs.Changes.{Lays, DefaultSet, default_answer, BoundarySet,
 use Rattle.changes.proofs.Changed.{text_set, rows_set, set_formed, text_bare, rows_bare, no_tag_bytes, reset_formed}
 
 blank_formed : Formed blank
-unfolding blank text_of rows_of size width row_bytes tag_bytes cut scalar if◌then◌else◌
+unfolding blank text_of rows_of size width row_bytes tag_bytes cut scalar when◌then◌else◌
 blank_formed = record { cells_are = (record { is_scalar = refl; not_nul = refl }, record { chars = tt; is_cut = refl; fits = omega arith }); text_fits = omega arith; columns_fit = omega arith; bytes_fit = omega arith }
 
 -- an answer that is a sentence is no refusal

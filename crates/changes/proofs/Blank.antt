@@ -7,7 +7,7 @@ use native.Mathlib.Omega.{arith}
 use borrow.Author.Tests.{not-true, not-false}
 use lib.Dec.{leb, leb-zero}
 use lib.ListN.{length, set}
-use Rattle.laws.specs.If.{if◌then◌else◌}
+use Rattle.laws.specs.If.{when◌then◌else◌}
 use Rattle.laws.specs.Put.{put_front}
 use Rattle.laws.proofs.Facts.{reads}
 use Rattle.utf8.specs.Utf8.{width, encode, encodes, size}
@@ -27,7 +27,7 @@ fits d = leb 1 (length d.text_buf) && leb 1 (length d.types_buf) && leb 2 (lengt
 
 -- boundaries and tags need no room
 pub room_is : (d : Buffers) → room_for (record_of blank) d ≡ fits d
-unfolding blank record_of room_for enough all text_of rows_of size width row_bytes tag_bytes if◌then◌else◌
+unfolding blank record_of room_for enough all text_of rows_of size width row_bytes tag_bytes when◌then◌else◌
 room_is d = simp (leb-zero, and-true)
 
 -- what the tests say of the lengths
@@ -42,14 +42,14 @@ room d = simp reads (omega arith)
 
 -- the way through `set_default` that refuses
 pub blank_refused : (d : Buffers) (r : Bool) → r ≡ fits d → not r ≡ true → DefaultSet d (answer.Refused (record { number = 15; place = 0 })) d
-unfolding default_answer verdict if◌then◌else◌
+unfolding default_answer verdict when◌then◌else◌
 blank_refused d r e h = record { answer_is = rw (room_is d, ← e, not-true r h); leaves = same_self d }
 
 -- and the way that lays the sentence down
 pub blank_laid : (d : Buffers) (r : Bool) → r ≡ fits d → not r ≡ false
     → DefaultSet d (answer.Sentence (record { n = 1; b = 1; columns = 0; cells = 0; g = 0 }))
     (buffers (set d.text_buf 0 32) (set d.types_buf 0 6) d.boundaries_buf (set (set d.char_pos_buf 0 0) 1 1) (set (set d.byte_pos_buf 0 0) 1 1) d.cell_starts_buf d.cell_lengths_buf d.tag_bytes_buf)
-unfolding default_answer verdict if◌then◌else◌ blank record_of lay laid text_of marks_of rows_of starts numbers size width encode encodes find ranges type_of row_bytes tag_bytes tags_of cells_of pad cell_starts bytes_of
+unfolding default_answer verdict when◌then◌else◌ blank record_of lay laid text_of marks_of rows_of starts numbers size width encode encodes find ranges type_of row_bytes tag_bytes tags_of cells_of pad cell_starts bytes_of
 blank_laid d r e h =
     let k = room d (sym e ∙ not-false r h) in
     record {

@@ -7,7 +7,7 @@ use mathlib.Core.Bool.{Bool, true, false, not, ◌||◌}
 use borrow.Author.Tests.{lt-ltb, le-ltb, ltb-false}
 use lib.Dec.{ltb}
 use lib.ListN.{length}
-use Rattle.laws.specs.If.{if◌then◌else◌}
+use Rattle.laws.specs.If.{when◌then◌else◌}
 use Rattle.laws.proofs.Facts.{neither}
 use Rattle.sentence.specs.Sentence.{Sentence, count}
 use Rattle.sentence.specs.Writing.{reset_tags_of}
@@ -21,12 +21,12 @@ use Rattle.changes.specs.Changes.{lack_cells, reset_answer}
 
 module _ (r : Record) (d : Buffers) (c : ℕ) (g : Bool) (e : g ≡ is_sheet r d) where
   pub reset_broken : not g ≡ true → answer.Refused (refusal 13 0) ≡ reset_answer (is_sheet r d) (spell r d) c d
-  unfolding reset_answer verdict if◌then◌else◌
+  unfolding reset_answer verdict when◌then◌else◌
   reset_broken h = rw (← e, h)
 
   module _ (h : not g ≡ false) where
     pub reset-outside : 4096 < c → answer.Refused (refusal 14 c) ≡ reset_answer (is_sheet r d) (spell r d) c d
-    unfolding reset_answer verdict if◌then◌else◌
+    unfolding reset_answer verdict when◌then◌else◌
     reset-outside o = rw (← e, h, lt-ltb 4096 c o)
 
     pub product_few : c ≤ 4096 → r.n * c ≤ 16777216
@@ -38,12 +38,12 @@ module _ (r : Record) (d : Buffers) (c : ℕ) (g : Bool) (e : g ≡ is_sheet r d
       lacks t k = rw (← (bounds (checked r d g e h)).n_is) k
 
       pub reset_lacks : (ltb (length d.cell_starts_buf) (r.n * c) || ltb (length d.cell_lengths_buf) (r.n * c)) ≡ true → answer.Refused (refusal 11 0) ≡ reset_answer (is_sheet r d) (spell r d) c d
-      unfolding reset_answer verdict if◌then◌else◌
+      unfolding reset_answer verdict when◌then◌else◌
       reset_lacks k = rw (← e, h, le-ltb 4096 c o, lacks true k)
 
       module _ (k : (ltb (length d.cell_starts_buf) (r.n * c) || ltb (length d.cell_lengths_buf) (r.n * c)) ≡ false) where
         pub reset_served : answer.Sentence (record_of (reset_tags_of c (spell r d))) ≡ reset_answer (is_sheet r d) (spell r d) c d
-        unfolding reset_answer verdict if◌then◌else◌
+        unfolding reset_answer verdict when◌then◌else◌
         reset_served = rw (← e, h, le-ltb 4096 c o, lacks false k)
 
         pub reset-room : Sheet r d × (c ≤ 4096) × (r.n * c ≤ length d.cell_starts_buf) × (r.n * c ≤ length d.cell_lengths_buf)

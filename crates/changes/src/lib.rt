@@ -63,8 +63,10 @@ pub fn set_boundary(
     i: usize,
     value: u8,
 ) -> Answer
-    ensures { BoundarySet r (lent_before text.now types.now boundaries.old char_pos.now byte_pos.now cell_starts.now cell_lengths.now tag_bytes.now) i value result
-        (with_boundaries boundaries.new (lent_before text.now types.now boundaries.old char_pos.now byte_pos.now cell_starts.now cell_lengths.now tag_bytes.now)) }
+    ensures { BoundarySet r (lent_before text.now types.now boundaries.old char_pos.now byte_pos.now cell_starts.now cell_lengths.now tag_bytes.now) i
+        value result
+        (with_boundaries boundaries.new
+        (lent_before text.now types.now boundaries.old char_pos.now byte_pos.now cell_starts.now cell_lengths.now tag_bytes.now)) }
 {
     if !sheet::check(
         r,
@@ -110,7 +112,8 @@ pub fn reset_tags(
     tag_bytes: &[u8],
     c: usize,
 ) -> Answer
-    ensures { TagsReset r (lent_before text.now types.now boundaries.now char_pos.now byte_pos.now cell_starts.old cell_lengths.old tag_bytes.now) c result (with_cells
+    ensures { TagsReset r (lent_before text.now types.now boundaries.now char_pos.now byte_pos.now cell_starts.old cell_lengths.old tag_bytes.now) c result
+        (with_cells
         cell_starts.new cell_lengths.new
         (lent_before text.now types.now boundaries.now char_pos.now byte_pos.now cell_starts.old cell_lengths.old tag_bytes.now)) }
 {

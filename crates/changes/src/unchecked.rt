@@ -20,11 +20,14 @@ pub fn set_boundary(
     i: usize,
     value: u8,
 ) -> Answer
-    requires { Sheet r (lent text.now types.now boundaries.old char_pos.now byte_pos.now cell_starts.now cell_lengths.now tag_bytes.now) × (i < r.n - 1) × (value ≤ 2) }
+    requires { Sheet r (lent text.now types.now boundaries.old char_pos.now byte_pos.now cell_starts.now cell_lengths.now tag_bytes.now) × (i < r.n - 1) ×
+        (value ≤ 2) }
     ensures { Laid
-        (set_boundary_of i (mark_of value) (spell r (lent_before text.now types.now boundaries.old char_pos.now byte_pos.now cell_starts.now cell_lengths.now tag_bytes.now)))
+        (set_boundary_of i (mark_of value)
+        (spell r (lent_before text.now types.now boundaries.old char_pos.now byte_pos.now cell_starts.now cell_lengths.now tag_bytes.now)))
         (lent_before text.now types.now boundaries.old char_pos.now byte_pos.now cell_starts.now cell_lengths.now tag_bytes.now) result
-        (with_boundaries boundaries.new (lent_before text.now types.now boundaries.old char_pos.now byte_pos.now cell_starts.now cell_lengths.now tag_bytes.now)) }
+        (with_boundaries boundaries.new
+        (lent_before text.now types.now boundaries.old char_pos.now byte_pos.now cell_starts.now cell_lengths.now tag_bytes.now)) }
 {
     boundaries[i] = value;
     Answer::Sentence(r)
@@ -59,8 +62,10 @@ pub fn reset_tags(
         × (c ≤ 4096)
         × (r.n * c ≤ length cell_starts.old)
         × (r.n * c ≤ length cell_lengths.old) }
-    ensures { Laid (reset_tags_of c (spell r (lent_before text.now types.now boundaries.now char_pos.now byte_pos.now cell_starts.old cell_lengths.old tag_bytes.now)))
-        (lent_before text.now types.now boundaries.now char_pos.now byte_pos.now cell_starts.old cell_lengths.old tag_bytes.now) result (with_cells cell_starts.new
+    ensures { Laid (reset_tags_of c
+        (spell r (lent_before text.now types.now boundaries.now char_pos.now byte_pos.now cell_starts.old cell_lengths.old tag_bytes.now)))
+        (lent_before text.now types.now boundaries.now char_pos.now byte_pos.now cell_starts.old cell_lengths.old tag_bytes.now) result
+        (with_cells cell_starts.new
         cell_lengths.new (lent_before text.now types.now boundaries.now char_pos.now byte_pos.now cell_starts.old cell_lengths.old tag_bytes.now)) }
 {
     let cells = r.n * c;

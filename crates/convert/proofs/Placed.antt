@@ -8,7 +8,7 @@ use mathlib.Core.List.{List, ◌++◌}
 use borrow.Author.Tests.{ltb-false}
 use lib.Dec.{ltb}
 use lib.ListN.{length, take, drop, length-drop, take-append-drop}
-use Rattle.laws.specs.If.{if◌then◌else◌}
+use Rattle.laws.specs.If.{when◌then◌else◌}
 use Rattle.laws.specs.Put.{over}
 use Rattle.laws.proofs.Tail.{lent, back}
 use Rattle.laws.proofs.Facts.{neither}
@@ -37,7 +37,7 @@ refuses_plain at out e = rw e (record { answer = refl; output = refl })
 
 -- ---- the checks, in their order
 between_unknown : (o : Bool) (f g : Form) (room : ℕ) (x : List ℕ) → between true o f g room x ≡ refuses (refusal 16 0)
-unfolding between host_order verdict if◌then◌else◌
+unfolding between host_order verdict when◌then◌else◌
 between_unknown o f g room x = on (read f x)
   where
     on : (y : Result) → host_order refuses true o overfull (λ (s : Sentence). ltb room (length (written g s))) (λ (s : Sentence). length (written g s)) (λ (s : Sentence). writes (written g s)) y ≡ refuses (refusal 16 0)
@@ -45,7 +45,7 @@ between_unknown o f g room x = on (read f x)
     on (refused n p) = refl
 
 between_outside : (f g : Form) (room : ℕ) (x : List ℕ) → between false true f g room x ≡ refuses (refusal 14 0)
-unfolding between host_order verdict if◌then◌else◌
+unfolding between host_order verdict when◌then◌else◌
 between_outside f g room x = on (read f x)
   where
     on : (y : Result) → host_order refuses false true overfull (λ (s : Sentence). ltb room (length (written g s))) (λ (s : Sentence). length (written g s)) (λ (s : Sentence). writes (written g s)) y ≡ refuses (refusal 14 0)

@@ -7,7 +7,7 @@ use mathlib.Core.List.{List}
 use borrow.Author.Tests.{lt-ltb, le-ltb, ltb-false, leb-true}
 use lib.Dec.{leb, ltb}
 use lib.ListN.{length}
-use Rattle.laws.specs.If.{if◌then◌else◌}
+use Rattle.laws.specs.If.{when◌then◌else◌}
 use Rattle.laws.proofs.Facts.{both}
 use Rattle.sentence.specs.declared.Refusal.{Refusal}
 use Rattle.sentence.specs.Sentence.{Sentence}
@@ -34,15 +34,15 @@ Passes o out c end = Converts (λ (c : Converted). c) o 0 out c end
 -- ---- where the line is known to read to a sentence of few cells, or of many, or to a refusal
 module _ (f g : Form) (room : ℕ) (x : List ℕ) where
   between_serves : (s : Sentence) → read f x ≡ sentence s → overfull s ≡ false → between false false f g room x ≡ writing g room s
-  unfolding between writing host_order verdict if◌then◌else◌
+  unfolding between writing host_order verdict when◌then◌else◌
   between_serves s e h = rw (e, h)
 
   between_full : (s : Sentence) → read f x ≡ sentence s → overfull s ≡ true → between false false f g room x ≡ refuses (refusal 11 0)
-  unfolding between host_order verdict if◌then◌else◌
+  unfolding between host_order verdict when◌then◌else◌
   between_full s e h = rw (e, h)
 
   between_refuses : (n k : ℕ) → read f x ≡ refused n k → between false false f g room x ≡ refuses (refusal n k)
-  unfolding between host_order verdict if◌then◌else◌
+  unfolding between host_order verdict when◌then◌else◌
   between_refuses n k e = rw e
 
 not_full : (s : Sentence) {r : Record} → r ≡ record_of s → r.cells ≤ 2048 → overfull s ≡ false
@@ -68,7 +68,7 @@ module _ (f : Form) (x : List ℕ) {a : Answer} (e : a ≡ scanned (read f x)) w
   scanned_few h k = record { record_is = sym h ∙ e; few = k }
 
   pub scanned_short : {r : Record} → a ≡ answer.Sentence r → length x ≤ 4096
-  unfolding read scanned if◌then◌else◌
+  unfolding read scanned when◌then◌else◌
   scanned_short {r} h = on (ltb 4096 (length x)) refl
     where
       on : (b : Bool) → ltb 4096 (length x) ≡ b → length x ≤ 4096

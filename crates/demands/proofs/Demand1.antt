@@ -11,7 +11,7 @@ use lib.Dec.{eqb, leb, ltb}
 use lib.IntN.{ℤ}
 use lib.ListN.{length, drop, get_or, length-take, length-drop}
 use lib.Seq.{drop_at, drop-drop, get_or-drop}
-use Rattle.laws.specs.If.{if◌then◌else◌, if_cases, if_true}
+use Rattle.laws.specs.If.{when◌then◌else◌, if_cases, if_true}
 use Rattle.laws.specs.Put.{over as put}
 use Rattle.laws.proofs.Facts.{reads, or_is, both}
 use Rattle.utf8.specs.declared.Decoded.{Decoded}
@@ -78,14 +78,14 @@ Each qs (check b n p ∷ cs) = (b ≡ true → one_of qs (refusal n p) ≡ true)
 
 module _ {A : Type 0} (say : A → Said) (refuse : Refusal → A) (tells : (x : Refusal) → say (refuse x) ≡ refuses x) (qs : List Allowed) where
   answers : (cs : List Check) (served : A) → say served ≡ serves → Each qs cs → Answers qs (say (verdict refuse cs served))
-  unfolding verdict if◌then◌else◌
+  unfolding verdict when◌then◌else◌
   answers [] served s h = rw s tt
   answers (check true n p ∷ cs) served s h = rw (tells (refusal n p)) (h.0 refl)
   answers (check false n p ∷ cs) served s h = answers cs served s h.1
 
   settles : {M : Type 0} (cs : List Check) (served : A) (d new : M) → say served ≡ serves → Each qs cs
       → Settled qs (say (verdict refuse cs served)) d (verdict (λ x. d) cs new)
-  unfolding verdict if◌then◌else◌
+  unfolding verdict when◌then◌else◌
   settles [] served d new s h = rw s tt
   settles (check true n p ∷ cs) served d new s h = rw (tells (refusal n p)) (h.0 refl, refl)
   settles (check false n p ∷ cs) served d new s h = settles cs served d new s h.1
@@ -197,20 +197,20 @@ no_end partial x = rw (eqb_self (length x))
 
 -- the kinds of the tokenized form, by their characters
 kind_mark : (c : ℕ) (m : Mark) → kind tokenized c ≡ mark m → c ≡ 32
-unfolding kind if◌then◌else◌
+unfolding kind when◌then◌else◌
 kind_mark c m = on (eqb c 32) refl (eqb c 47) (eqb c 92)
   where
-    on : (b : Bool) → eqb c 32 ≡ b → (d e : Bool) → (if b then mark word else if d then slash else if e then back else plain) ≡ mark m → c ≡ 32
+    on : (b : Bool) → eqb c 32 ≡ b → (d e : Bool) → (when b then mark word else when d then slash else when e then back else plain) ≡ mark m → c ≡ 32
     on true q d e h = eqb-true c 32 q
     on false q true e h = absurd (let z : ◌≡◌ {A = ℕ} 0 1 = cc in omega arith)
     on false q false true h = absurd (let z : ◌≡◌ {A = ℕ} 0 1 = cc in omega arith)
     on false q false false h = absurd (let z : ◌≡◌ {A = ℕ} 0 1 = cc in omega arith)
 
 kind_slash : (c : ℕ) → kind tokenized c ≡ slash → c ≡ 47
-unfolding kind if◌then◌else◌
+unfolding kind when◌then◌else◌
 kind_slash c = on (eqb c 32) (eqb c 47) refl (eqb c 92)
   where
-    on : (b d : Bool) → eqb c 47 ≡ d → (e : Bool) → (if b then mark word else if d then slash else if e then back else plain) ≡ slash → c ≡ 47
+    on : (b d : Bool) → eqb c 47 ≡ d → (e : Bool) → (when b then mark word else when d then slash else when e then back else plain) ≡ slash → c ≡ 47
     on true d q e h = absurd (let z : ◌≡◌ {A = ℕ} 0 1 = cc in omega arith)
     on false true q e h = eqb-true c 47 q
     on false false q true h = absurd (let z : ◌≡◌ {A = ℕ} 0 1 = cc in omega arith)
@@ -438,12 +438,12 @@ one_told n p = rw (eqb_self n, eqb_self p)
 
 -- a refused line: a number of its form, at its place
 read_told : (f : Form) (x : List ℕ) → Told (line_refusals f x) (read f x)
-unfolding read line_refusals if◌then◌else◌
+unfolding read line_refusals when◌then◌else◌
 read_told f x = long (ltb 4096 (length x))
   where
     bad : (b : Bool) → ltb (valid_prefix x) (length x) ≡ b
-        → Told (if b then exactly 2 (valid_prefix x) ∷ [] else form_refusals f x)
-        (if b then refused 2 (valid_prefix x) else placed (length x) (run f (at start) (scalars x)))
+        → Told (when b then exactly 2 (valid_prefix x) ∷ [] else form_refusals f x)
+        (when b then refused 2 (valid_prefix x) else placed (length x) (run f (at start) (scalars x)))
     bad true e = one_told 2 (valid_prefix x)
     bad false e =
         let v : valid_prefix x ≡ length x = omega (arith, ltb-false (valid_prefix x) (length x) e, valid_within x) in
@@ -453,8 +453,8 @@ read_told f x = long (ltb 4096 (length x))
         placed_told f x (run f (at start) (scalars x)) (run_ran f x (at start) (scalars x) l) (run_some f (at start) (scalars x) tt)
 
     long : (b : Bool)
-        → Told (if b then exactly 1 4096 ∷ [] else if ltb (valid_prefix x) (length x) then exactly 2 (valid_prefix x) ∷ [] else form_refusals f x)
-        (if b then refused 1 4096 else if ltb (valid_prefix x) (length x) then refused 2 (valid_prefix x) else placed (length x) (run f (at start) (scalars x)))
+        → Told (when b then exactly 1 4096 ∷ [] else when ltb (valid_prefix x) (length x) then exactly 2 (valid_prefix x) ∷ [] else form_refusals f x)
+        (when b then refused 1 4096 else when ltb (valid_prefix x) (length x) then refused 2 (valid_prefix x) else placed (length x) (run f (at start) (scalars x)))
     long true = one_told 1 4096
     long false = bad (ltb (valid_prefix x) (length x)) refl
 
@@ -472,17 +472,17 @@ module _ (f : Form) (x : List ℕ) (d e : Buffers) (a : Answer) where
 -- what an update answers and leaves, where there is no room for the one-blank sentence or where there is
 abbrev Left : Form → List ℕ → Buffers → Bool → Said → Buffers → Type 0
 Left f x d b serves e = Unit {0}
-Left f x d b (refuses y) e = (one_of (update_refusals f x) y ≡ true) × (e ≡ (if b then d else laid blank d))
+Left f x d b (refuses y) e = (one_of (update_refusals f x) y ≡ true) × (e ≡ (when b then d else laid blank d))
 
 left : (f : Form) (x : List ℕ) (d : Buffers) (b : Bool) (r : Result) → Told (line_refusals f x) r
     → Left f x d b (of_answer (verdict answer.Refused (check b 15 0 ∷ []) (reader_order answer.Refused (lacks d) (λ (s : Sentence). answer.Sentence (record_of s)) r)))
-    (if b then d else reader_order (λ (y : Refusal). laid blank d) (lacks d) (λ (s : Sentence). laid s d) r)
-unfolding verdict reader_order if◌then◌else◌ of_answer one_of allows
+    (when b then d else reader_order (λ (y : Refusal). laid blank d) (lacks d) (λ (s : Sentence). laid s d) r)
+unfolding verdict reader_order when◌then◌else◌ of_answer one_of allows
 left f x d true r h = (refl, refl)
 left f x d false (refused n p) h = (more (exactly 15 0) (read_refusals f x) (refusal n p) (more (exactly 11 0) (line_refusals f x) (refusal n p) h), refl)
 left f x d false (sentence s) h = on (lacks d s)
   where
-    on : (c : Bool) → Left f x d false (of_answer (if c then answer.Refused (refusal 11 0) else answer.Sentence (record_of s))) (if c then laid blank d else laid s d)
+    on : (c : Bool) → Left f x d false (of_answer (when c then answer.Refused (refusal 11 0) else answer.Sentence (record_of s))) (when c then laid blank d else laid s d)
     on true = (refl, refl)
     on false = tt
 
@@ -526,7 +526,7 @@ module _ (reader writer : ℕ) (x out out' : List ℕ) (place : ℕ) where
   comes : (unknown outside : Bool) (r : Result) → Told (line_refusals (form_of reader) x) r
       → Comes (exactly 16 0 ∷ exactly 14 0 ∷ pass_refusals (form_of reader) (form_of writer) x r)
       (host_order no_line unknown outside overfull (λ (s : Sentence). ltb (length out - place) (length (written (form_of writer) s))) (λ (s : Sentence). length (written (form_of writer) s)) (λ (s : Sentence). writes (written (form_of writer) s)) r)
-  unfolding host_order verdict if◌then◌else◌ one_of allows pass_refusals
+  unfolding host_order verdict when◌then◌else◌ one_of allows pass_refusals
   comes true outside (refused n p) h = refl
   comes false true (refused n p) h = refl
   comes false false (refused n p) h =
@@ -536,12 +536,12 @@ module _ (reader writer : ℕ) (x out out' : List ℕ) (place : ℕ) where
   comes false false (sentence s) h = full (overfull s)
     where
       on : (b : Bool) → Comes (exactly 16 0 ∷ exactly 14 0 ∷ exactly 12 (length (written (form_of writer) s)) ∷ [])
-          (if b then no_line (refusal 12 (length (written (form_of writer) s))) else writes (written (form_of writer) s))
+          (when b then no_line (refusal 12 (length (written (form_of writer) s))) else writes (written (form_of writer) s))
       on true = rw (eqb_self (length (written (form_of writer) s)))
       on false = tt
 
-      full : (o : Bool) → Comes (exactly 16 0 ∷ exactly 14 0 ∷ (if o then exactly 11 0 ∷ [] else exactly 12 (length (written (form_of writer) s)) ∷ []))
-          (if o then no_line (refusal 11 0) else (if ltb (length out - place) (length (written (form_of writer) s)) then no_line (refusal 12 (length (written (form_of writer) s))) else writes (written (form_of writer) s)))
+      full : (o : Bool) → Comes (exactly 16 0 ∷ exactly 14 0 ∷ (when o then exactly 11 0 ∷ [] else exactly 12 (length (written (form_of writer) s)) ∷ []))
+          (when o then no_line (refusal 11 0) else (when ltb (length out - place) (length (written (form_of writer) s)) then no_line (refusal 12 (length (written (form_of writer) s))) else writes (written (form_of writer) s)))
       full true = refl
       full false = on (ltb (length out - place) (length (written (form_of writer) s)))
 
@@ -675,7 +675,7 @@ module _ (f : ℕ) (x : List ℕ) (d : Buffers) (ns : List ℕ) where
 
   told : (b c : Bool) (r : Result) → Told (line_refusals (form_of f) x) r
       → Settled {M = Buffers × List ℕ} host_read_refusals (of_answer (answered b c r)) (d, ns) (verdict (λ (q : Refusal). d) (check b 16 0 ∷ check c 14 0 ∷ []) (read_leaves r d), read_numbers (answered b c r) ns)
-  unfolding verdict read_answer read_leaves reader_order read_numbers if◌then◌else◌ of_answer one_of allows
+  unfolding verdict read_answer read_leaves reader_order read_numbers when◌then◌else◌ of_answer one_of allows
   told true c r h = (refl, refl)
   told false true r h = (refl, refl)
   told false false (refused n p) h = (
@@ -685,8 +685,8 @@ module _ (f : ℕ) (x : List ℕ) (d : Buffers) (ns : List ℕ) where
   )
   told false false (sentence s) h = on (lacks d s)
     where
-      on : (b : Bool) → Settled {M = Buffers × List ℕ} host_read_refusals (of_answer (if b then answer.Refused (refusal 11 0) else answer.Sentence (record_of s))) (d, ns)
-          (if b then d else laid s d, read_numbers (if b then answer.Refused (refusal 11 0) else answer.Sentence (record_of s)) ns)
+      on : (b : Bool) → Settled {M = Buffers × List ℕ} host_read_refusals (of_answer (when b then answer.Refused (refusal 11 0) else answer.Sentence (record_of s))) (d, ns)
+          (when b then d else laid s d, read_numbers (when b then answer.Refused (refusal 11 0) else answer.Sentence (record_of s)) ns)
       on true = (refl, refl)
       on false = tt
 
@@ -706,7 +706,7 @@ host_writes f r d out out' a w =
 -- a step, told in a span with so much room
 spans : (s : Next) (span : List ℕ) (b : Bool) → ltb (length span) 2 ≡ b → Answers (exactly 13 0 ∷ []) (of_next s)
     → Settled (exactly 13 0 ∷ exactly 14 0 ∷ []) (of_next (spanned (length span) s)) span (step_span (spanned (length span) s) span)
-unfolding spanned step_span verdict if◌then◌else◌ of_next one_of allows
+unfolding spanned step_span verdict when◌then◌else◌ of_next one_of allows
 spans (step-answer.Is s) span true e h = rw e (refl, refl)
 spans (step-answer.Is s) span false e h = rw e tt
 spans (step-answer.Refused q) span b e h = (first (allows (exactly 13 0) q) _ h, refl)

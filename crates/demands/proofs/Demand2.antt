@@ -7,7 +7,7 @@ use native.Mathlib.Omega.{arith}
 use borrow.Author.Tests.{le-ltb, lt-leb, ltb-true, ltb-false}
 use lib.Dec.{ltb}
 use lib.ListN.{length, take, drop, get_or}
-use Rattle.laws.specs.If.{if◌then◌else◌}
+use Rattle.laws.specs.If.{when◌then◌else◌}
 use Rattle.laws.specs.Put.{over}
 use Rattle.utf8.specs.Utf8.{encodes, size}
 use Rattle.utf8.proofs.Codec.{scalars_encodes, encodes_scalars}
@@ -59,16 +59,16 @@ taken : (f : Form) (x : List ℕ) (s : Sentence) (d e : Buffers) (a : Answer) �
 taken f x s d e a i h p q = rw (p, q) (record { answer_is = refl; lies = lies s d; holds = laid_holds s d (read_formed f x s i).0 h })
 
 reads : (f : Form) (x : List ℕ) (s : Sentence) (d e : Buffers) (a : Answer) → read f x ≡ sentence s → room_for (record_of s) d ≡ true → ReadDoes (read f x) d a e → Taken s d a e
-unfolding read_answer read_leaves reader_order verdict lacks if◌then◌else◌
+unfolding read_answer read_leaves reader_order verdict lacks when◌then◌else◌
 reads f x s d e a i h w = taken f x s d e a i h (w.answer_is ∙ rw (i, h)) (same_is w.buffers_are ∙ rw (i, h))
 
 updates : (f : Form) (x : List ℕ) (s : Sentence) (d e : Buffers) (a : Answer) → read f x ≡ sentence s → room_for (record_of s) d ≡ true
     → room_for (record_of blank) d ≡ true → UpdateDoes (read f x) d a e → Taken s d a e
-unfolding update_answer update_leaves update_order reader_order verdict lacks if◌then◌else◌
+unfolding update_answer update_leaves update_order reader_order verdict lacks when◌then◌else◌
 updates f x s d e a i h k w = taken f x s d e a i h (w.answer_is ∙ rw (i, h, k)) (same_is w.buffers_are ∙ rw (i, h, k))
 
 serves : (d : Buffers) → room_for (record_of blank) d ≡ true → answer.Sentence (record_of blank) ≡ default_answer d
-unfolding default_answer verdict if◌then◌else◌
+unfolding default_answer verdict when◌then◌else◌
 serves d h = rw h
 
 -- the one-blank sentence, laid down where there is room for it
@@ -79,10 +79,10 @@ blank_laid d h = default_holds d (answer.Sentence (record_of blank)) (laid blank
     set k = record { answer_is = serves d k; leaves = same_self (laid blank d) }
 
 blanks : (x : Result) (d e : Buffers) (y : Refusal) → room_for (record_of blank) d ≡ true → UpdateDoes x d (answer.Refused y) e → Lies blank d e × Holds (record_of blank) e blank
-unfolding update_answer update_leaves update_order reader_order verdict lacks if◌then◌else◌
+unfolding update_answer update_leaves update_order reader_order verdict lacks when◌then◌else◌
 blanks x d e y h w = subst (λ (b : Buffers). Lies blank d b × Holds (record_of blank) b blank) (sym (same_is w.buffers_are ∙ on x w.answer_is)) (lies blank d, blank_laid d h)
   where
-    served : (s : Sentence) (b : Bool) → answer.Refused y ≡ (if b then answer.Refused (refusal 11 0) else answer.Sentence (record_of s)) → (if b then laid blank d else laid s d) ≡ laid blank d
+    served : (s : Sentence) (b : Bool) → answer.Refused y ≡ (when b then answer.Refused (refusal 11 0) else answer.Sentence (record_of s)) → (when b then laid blank d else laid s d) ≡ laid blank d
     served s true a = refl
     served s false a = absurd (let z : ◌≡◌ {A = ℕ} 0 1 = cc in omega arith)
 
@@ -99,7 +99,7 @@ writes : (f : Form) (r : Record) (d : Buffers) (s : Sentence) (out out' : List �
 writes f r d s out out' a h k w = let z = spelled r d s h in rw (← z) (write.puts_once w (write.serves r d false 0 (rw z h) refl (rw z k)))
 
 writes_any : (f : Form) → Annotated f → (r : Record) (d : Buffers) (out out' : List ℕ) (a : Number) → Written f r d out a out' → Writes f r d out a out'
-unfolding line_order verdict if◌then◌else◌
+unfolding line_order verdict when◌then◌else◌
 writes_any f an r d out out' a w = on (is_sheet r d) refl
   where
     on : (b : Bool) → is_sheet r d ≡ b → Writes f r d out a out'
@@ -111,12 +111,12 @@ writes_any f an r d out out' a w = on (is_sheet r d) refl
         long false l = says.its_line (spell r d) (is_sheet_lem r d e) (ltb-false _ _ l) (w.answer_is ∙ rw (e, l)) (w.out_is ∙ rw (e, l))
 
 steps : (r : Record) (d : Buffers) (s : Sentence) (p : ℕ) (a : Next) → Holds r d s → a ≡ next_of r d p → a ≡ next.Is (step_of (next_token_of (marks s) (count s) p))
-unfolding next_of verdict if◌then◌else◌
+unfolding next_of verdict when◌then◌else◌
 steps r d s p a h e = e ∙ rw (holds_is r d s h, spelled r d s h)
 
 lists : (r : Record) (d : Buffers) (s : Sentence) (l l' : List Token) (a : Number) → Holds r d s → length (tokens_from (marks s) 0) ≤ length l
     → Listed r d l a l' → (a ≡ number.Is (length (tokens_from (marks s) 0))) × (l' ≡ over (map span_of (tokens_from (marks s) 0)) l)
-unfolding count_of list_order verdict if◌then◌else◌
+unfolding count_of list_order verdict when◌then◌else◌
 lists r d s l l' a h k w =
     let g = holds_is r d s h in
     let z = spelled r d s h in
@@ -125,7 +125,7 @@ lists r d s l l' a h k w =
 
 char_to_byte : (r : Record) (d : Buffers) (s : Sentence) (i : ℕ) (a : Number) → Holds r d s → i ≤ count s
     → a ≡ char_to_str_pos_of (is_sheet r d) (spell r d) i → a ≡ number.Is (start_at s i)
-unfolding char_to_str_pos_of verdict if◌then◌else◌
+unfolding char_to_str_pos_of verdict when◌then◌else◌
 char_to_byte r d s i a h k e = e ∙ rw (holds_is r d s h, spelled r d s h, le-ltb (count s) i k)
 
 byte_to_char : (r : Record) (d : Buffers) (s : Sentence) (i : ℕ) (a : Number) → Holds r d s → i ≤ count s
@@ -134,7 +134,7 @@ byte_to_char r d s i a h k e = e ∙ rw (holds_is r d s h, spelled r d s h) (pos
 
 boundaries : (r : Record) (d : Buffers) (s : Sentence) (i : ℕ) (a : Number) → Holds r d s → i < count s - 1
     → a ≡ boundary_at (is_sheet r d) (spell r d) i → a ≡ number.Is (code (get_or (marks s) i none))
-unfolding boundary_at verdict if◌then◌else◌
+unfolding boundary_at verdict when◌then◌else◌
 boundaries r d s i a h k e = e ∙ rw (holds_is r d s h, spelled r d s h, lt-leb (count s - 1) i k)
 
 -- what a tag's slice tells, by where its bytes lie
@@ -147,7 +147,7 @@ tells (c ∷ t) at bytes h =
 
 tags : (r : Record) (d : Buffers) (s : Sentence) (row column : ℕ) (a : Slice) → Holds r d s → row < count s → column < s.columns
     → a ≡ tag_at (is_sheet r d) (spell r d) row column → Tells (get_or (get_or (table s) row []) column []) d.tag_bytes_buf a
-unfolding tag_at verdict if◌then◌else◌
+unfolding tag_at verdict when◌then◌else◌
 tags r d s row column a h k l e =
     let n : row < r.n = omega (arith, bounds h) in
     let f : a ≡ tag_slice (cell_start (rows s) row column) (cell s row column) =
@@ -157,7 +157,7 @@ tags r d s row column a h k l e =
 
 surfaces : (r : Record) (d : Buffers) (s : Sentence) (b e : ℕ) (a : Slice) → Holds r d s → b < e → e ≤ count s
     → a ≡ surface_at (is_sheet r d) (spell r d) b e → Spells (surface s b e) d.text_buf a
-unfolding surface_at verdict if◌then◌else◌
+unfolding surface_at verdict when◌then◌else◌
 surfaces r d s b e a h k l i =
     let n : e ≤ r.n = omega (arith, bounds h) in
     let f : a ≡ surface_slice s b e = i ∙ rw (holds_is r d s h, spelled r d s h, lt-leb e b k, le-ltb (count s) e l) in

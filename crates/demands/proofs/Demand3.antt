@@ -9,7 +9,7 @@ use borrow.Author.Tests.{eq-eqb, lt-leb, le-ltb}
 use lib.Dec.{ltb}
 use lib.IntN.{ℤ}
 use lib.ListN.{length, take, drop, replicate, length-replicate}
-use Rattle.laws.specs.If.{if◌then◌else◌}
+use Rattle.laws.specs.If.{when◌then◌else◌}
 use Rattle.laws.specs.Put.{over}
 use Rattle.laws.proofs.Facts.{reads}
 use Rattle.sentence.specs.Sentence.{Sentence, count, Agree, Formed}
@@ -92,17 +92,17 @@ lays a t d e = record { answer_is = e; leaves = same_self (laid t d) }
 
 module _ (r : Record) (d : Buffers) (s : Sentence) (h : Holds r d s) where
   boundary_served : (i v : ℕ) → i < count s - 1 → v ≤ 2 → answer.Sentence (record_of (set_boundary_of i (mark_of v) (spell r d))) ≡ boundary_answer (is_sheet r d) (spell r d) i v
-  unfolding boundary_answer verdict if◌then◌else◌
+  unfolding boundary_answer verdict when◌then◌else◌
   boundary_served i v k l = rw (holds_is r d s h, spelled r d s h, lt-leb (count s - 1) i k, le-ltb 2 v l)
 
   reset_served : (c : ℕ) → c ≤ 4096 → count s * c ≤ length d.cell_starts_buf → count s * c ≤ length d.cell_lengths_buf
       → answer.Sentence (record_of (reset_tags_of c (spell r d))) ≡ reset_answer (is_sheet r d) (spell r d) c d
-  unfolding reset_answer lack_cells verdict if◌then◌else◌
+  unfolding reset_answer lack_cells verdict when◌then◌else◌
   reset_served c k l m =
       rw (holds_is r d s h, spelled r d s h, le-ltb 4096 c k, le-ltb (length d.cell_starts_buf) (count s * c) l, le-ltb (length d.cell_lengths_buf) (count s * c) m)
 
   decision_served : (zs : List ℤ) → length zs ≡ count s - 1 → answer.Sentence (record_of (scored zs (spell r d))) ≡ score_answer (is_sheet r d) (spell r d) zs
-  unfolding score_answer verdict if◌then◌else◌
+  unfolding score_answer verdict when◌then◌else◌
   decision_served zs k = rw (holds_is r d s h, spelled r d s h, eq-eqb (length zs) (count s - 1) k)
 
   boundaries_set : (i v : ℕ) → i < count s - 1 → v ≤ 2 → (q : Record) × (e : Buffers) × Changed r d s q e (set_boundary_of i (mark_of v) s)
@@ -167,20 +167,20 @@ module _ (g : Form) (room place end : ℕ) where
   -- an end that is answered is that of a written line
   comes_written : (unknown outside : Bool) (r : Result) (s : Sentence) → r ≡ sentence s → converted.Wrote end ≡ answer_of place (comes unknown outside r)
       → comes unknown outside r ≡ writes (written g s)
-  unfolding host_order verdict if◌then◌else◌ answer_of
+  unfolding host_order verdict when◌then◌else◌ answer_of
   comes_written unknown outside (refused n p) s i e = absurd (let z : ◌≡◌ {A = ℕ} 0 1 = cc in omega arith)
   comes_written true outside (sentence t) s i e = absurd (let z : ◌≡◌ {A = ℕ} 0 1 = cc in omega arith)
   comes_written false true (sentence t) s i e = absurd (let z : ◌≡◌ {A = ℕ} 0 1 = cc in omega arith)
   comes_written false false (sentence t) s i e = let k : t ≡ s = cc in full (overfull t) e ∙ rw k
     where
-      on : (b : Bool) → converted.Wrote end ≡ answer_of place (if b then refuses (record { number = 12; place = needed g t }) else writes (written g t))
-          → (if b then refuses (record { number = 12; place = needed g t }) else writes (written g t)) ≡ writes (written g t)
+      on : (b : Bool) → converted.Wrote end ≡ answer_of place (when b then refuses (record { number = 12; place = needed g t }) else writes (written g t))
+          → (when b then refuses (record { number = 12; place = needed g t }) else writes (written g t)) ≡ writes (written g t)
       on true a = absurd (let z : ◌≡◌ {A = ℕ} 0 1 = cc in omega arith)
       on false a = refl
 
       full : (o : Bool)
-          → converted.Wrote end ≡ answer_of place (if o then refuses (record { number = 11; place = 0 }) else (if ltb room (needed g t) then refuses (record { number = 12; place = needed g t }) else writes (written g t)))
-          → (if o then refuses (record { number = 11; place = 0 }) else (if ltb room (needed g t) then refuses (record { number = 12; place = needed g t }) else writes (written g t))) ≡ writes (written g t)
+          → converted.Wrote end ≡ answer_of place (when o then refuses (record { number = 11; place = 0 }) else (when ltb room (needed g t) then refuses (record { number = 12; place = needed g t }) else writes (written g t)))
+          → (when o then refuses (record { number = 11; place = 0 }) else (when ltb room (needed g t) then refuses (record { number = 12; place = needed g t }) else writes (written g t))) ≡ writes (written g t)
       full true a = absurd (let z : ◌≡◌ {A = ℕ} 0 1 = cc in omega arith)
       full false a = on (ltb room (needed g t)) a
 
@@ -209,7 +209,7 @@ spelt g r d s h =
     subst (λ (t : Sentence). Spelt g r d (written g t)) z (given (Written g) (line_of g r d) (λ out l. serves r d false 0 (rw z h) refl l))
 
 respelt : (f g : Form) (x : List ℕ) (s : Sentence) → read f x ≡ sentence s → Respelt f g x (written g s)
-unfolding read_answer read_leaves reader_order verdict lacks if◌then◌else◌
+unfolding read_answer read_leaves reader_order verdict lacks when◌then◌else◌
 respelt f g x s i =
     let d = zeros (record_of s) in
     let n = enough (record_of s) in

@@ -9,7 +9,7 @@ use borrow.Author.Tests.{ne_eqb, lt-ltb, le-ltb, ltb-false}
 use lib.Dec.{eqb, leb, ltb}
 use lib.ListN.{length, take, drop, get_or, length-map}
 use lib.Seq.{take-length}
-use Rattle.laws.specs.If.{if◌then◌else◌}
+use Rattle.laws.specs.If.{when◌then◌else◌}
 use Rattle.laws.specs.Put.{over}
 use Rattle.laws.proofs.Facts.{neither}
 use Rattle.utf8.specs.Utf8.{size}
@@ -94,7 +94,7 @@ no_other r d n =
 
 -- ---- the answers
 told : (r : Record) (d : Buffers) (t : Sentence) → is_sheet r d ≡ true → spell r d ≡ t → ToldOf r d t
-unfolding next_of count_of list_order line_order verdict if◌then◌else◌
+unfolding next_of count_of list_order line_order verdict when◌then◌else◌
 told r d t g z = record {
   char_to_str_pos = λ i a e. e ∙ rw (g, z);
   str_to_char_pos = λ p a e. e ∙ rw (g, z);
@@ -131,11 +131,11 @@ either false b (inr e) = e
 
 module _ (r : Record) (d e : Buffers) (s : Sentence) (c : ℕ) (a : Answer) (h : Holds r d s) (w : TagsReset r d c a e) where
   reset_columns : 4096 < c → a ≡ answer.Refused (refusal 14 c)
-  unfolding reset_answer verdict if◌then◌else◌
+  unfolding reset_answer verdict when◌then◌else◌
   reset_columns k = w.answer_is ∙ rw (holds_is r d s h, lt-ltb 4096 c k)
 
   reset_lacks : c ≤ 4096 → (length d.cell_starts_buf < count s * c) ⊎ (length d.cell_lengths_buf < count s * c) → a ≡ answer.Refused (refusal 11 0)
-  unfolding reset_answer lack_cells verdict if◌then◌else◌
+  unfolding reset_answer lack_cells verdict when◌then◌else◌
   reset_lacks k l =
       w.answer_is
       ∙ rw (holds_is r d s h, spelled r d s h, le-ltb 4096 c k, either (ltb (length d.cell_starts_buf) (count s * c)) (ltb (length d.cell_lengths_buf) (count s * c)) (short l))
@@ -150,12 +150,12 @@ module _ (reader writer : ℕ) (x out : List ℕ) (at : ℕ) (s : Sentence) (i :
   -- what comes of a line that is read, by the three tests in front and how many cells it has
   comes_full : unknown_forms reader writer ≡ false → out_of_range (length out) at ≡ false → 2048 < count s * s.columns
       → conversion reader writer x (length out) at ≡ refuses (refusal 11 0)
-  unfolding conversion between overfull host_order verdict if◌then◌else◌
+  unfolding conversion between overfull host_order verdict when◌then◌else◌
   comes_full u o k = rw (u, o, i, lt-ltb 2048 (count s * s.columns) k)
 
   comes_line : unknown_forms reader writer ≡ false → out_of_range (length out) at ≡ false → count s * s.columns ≤ 2048
       → length (written (form_of writer) s) ≤ length out - at → conversion reader writer x (length out) at ≡ writes (written (form_of writer) s)
-  unfolding conversion between overfull host_order verdict if◌then◌else◌
+  unfolding conversion between overfull host_order verdict when◌then◌else◌
   comes_line u o k l = rw (u, o, i, le-ltb 2048 (count s * s.columns) k, le-ltb (length out - at) (length (written (form_of writer) s)) l)
 
   overfull_refused : (out' : List ℕ) (a : Converted) → unknown_forms reader writer ≡ false → out_of_range (length out) at ≡ false
@@ -174,12 +174,12 @@ module _ (reader writer : ℕ) (x out : List ℕ) (at : ℕ) (s : Sentence) (i :
   -- a line that was written has known forms and few cells
   few : (out' : List ℕ) (end : ℕ) → Converts (λ (c : Converted). c) (conversion reader writer x (length out) at) at out (converted.Wrote end) out'
       → (unknown_forms reader writer ≡ false) × (count s * s.columns ≤ 2048)
-  unfolding conversion between overfull host_order verdict if◌then◌else◌ answer_of
+  unfolding conversion between overfull host_order verdict when◌then◌else◌ answer_of
   few out' end w = on (unknown_forms reader writer) (out_of_range (length out) at) (ltb 2048 (count s * s.columns)) refl refl (w.answer ∙ rw i)
     where
       on : (u o k : Bool) → unknown_forms reader writer ≡ u → ltb 2048 (count s * s.columns) ≡ k
-          → converted.Wrote end ≡ answer_of at (if u then refuses (refusal 16 0) else (if o then refuses (refusal 14 0) else (if k then refuses (refusal 11 0) else
-          (if ltb (length out - at) (length (written (form_of writer) s)) then refuses (refusal 12 (length (written (form_of writer) s))) else writes (written (form_of writer) s)))))
+          → converted.Wrote end ≡ answer_of at (when u then refuses (refusal 16 0) else (when o then refuses (refusal 14 0) else (when k then refuses (refusal 11 0) else
+          (when ltb (length out - at) (length (written (form_of writer) s)) then refuses (refusal 12 (length (written (form_of writer) s))) else writes (written (form_of writer) s)))))
           → (unknown_forms reader writer ≡ false) × (count s * s.columns ≤ 2048)
       on true o k p q e = absurd (let z : ◌≡◌ {A = ℕ} 0 1 = cc in omega arith)
       on false true k p q e = absurd (let z : ◌≡◌ {A = ℕ} 0 1 = cc in omega arith)

@@ -2,7 +2,7 @@
 -- lent to it. That a call ends belongs to every contract; each row says the rest of one entry, of every outcome that meets its contract.
 use Rattle.std.specs.Prelude.{ℕ, ◌+◌, ◌≤◌, ◌<◌, ◌≡◌, ◌↔◌, ◌⊎◌, Bool, true, false, ◌&&◌, ◌||◌, List, [], ◌∷◌, ◌++◌, eqb, ltb, ℤ, length, get_or}
 use Prim.Native.Char.{code as chr}
-use Rattle.laws.specs.If.{if◌then◌else◌}
+use Rattle.laws.specs.If.{when◌then◌else◌}
 use Rattle.utf8.specs.declared.Decoded.{Decoded}
 use Rattle.utf8.specs.declared.Decoded.TheVariants as decoded
 use Rattle.utf8.specs.Utf8.{scalar, decode_at, valid_prefix}
@@ -95,7 +95,7 @@ Settled qs (refuses x) d e = (one_of qs x ≡ true) × (e ≡ d)
 -- the exception: where an update refuses, the one-blank sentence is laid down, given room for it
 abbrev pub Blanked : List Allowed → Said → Buffers → Buffers → Type 0
 Blanked qs serves d e = Unit {0}
-Blanked qs (refuses x) d e = (one_of qs x ≡ true) × (e ≡ (if lacks d blank then d else laid blank d))
+Blanked qs (refuses x) d e = (one_of qs x ≡ true) × (e ≡ (when lacks d blank then d else laid blank d))
 
 -- a line that is UTF-8 and not too long is refused in each form by these: at its end, at a NUL, at a space, at a slash, or at one of its bytes
 unfoldable pub form_refusals : Form → List ℕ → List Allowed
@@ -107,8 +107,8 @@ form_refusals partial x = exactly 3 (length x) ∷ at_byte 4 0 x ∷ inside 9 x 
 -- a line over 4,096 bytes is refused by 1 at 4096; one that is not UTF-8 by 2 at the end of its longest valid prefix; any other by its form
 unfoldable pub line_refusals : Form → List ℕ → List Allowed
 line_refusals f x =
-    if ltb 4096 (length x) then exactly 1 4096 ∷ []
-    else if ltb (valid_prefix x) (length x) then exactly 2 (valid_prefix x) ∷ []
+    when ltb 4096 (length x) then exactly 1 4096 ∷ []
+    else when ltb (valid_prefix x) (length x) then exactly 2 (valid_prefix x) ∷ []
     else form_refusals f x
 
 -- a reader refuses by 11, or by what the line is refused by; an update by 15 too
@@ -136,7 +136,7 @@ reset_refusals first = exactly 13 0 ∷ exactly 14 first ∷ exactly 11 0 ∷ []
 
 -- a line that is refused, or has more cells than are held, which 11 refuses, or is written in a form, which 12 refuses at the length needed
 unfoldable pub pass_refusals : Form → Form → List ℕ → Result → List Allowed
-pass_refusals f g x (sentence s) = if overfull s then exactly 11 0 ∷ [] else exactly 12 (needed g s) ∷ []
+pass_refusals f g x (sentence s) = when overfull s then exactly 11 0 ∷ [] else exactly 12 (needed g s) ∷ []
 pass_refusals f g x (refused n p) = line_refusals f x
 
 -- the conversion refuses by 16, by 14 at 0, or by that

@@ -4,7 +4,7 @@ use native.Mathlib.Omega.{arith}
 use mathlib.Core.Path.{sym, ap, ◌∙◌}
 use mathlib.Core.List.{List, [], ◌∷◌, map}
 use lib.ListN.{length, take, drop, get_or}
-use Rattle.laws.specs.If.{if◌then◌else◌}
+use Rattle.laws.specs.If.{when◌then◌else◌}
 use Rattle.utf8.specs.Utf8.{width, size}
 use Rattle.utf8.proofs.Codec.{width_small, size_append, length_encodes, size_long}
 use Rattle.sentence.specs.Sentence.{Tag, Cells, final, cell, Sentence, text_of, rows_of, text, marks, rows, pad, row_bytes, tag_bytes, CellsOf, Formed}
@@ -19,7 +19,7 @@ use Rattle.sentence.proofs.Cells.{length_marks, rows_are, row_at}
 
 -- ---- tags
 escape_one : (k : Kind) (c : ℕ) → size (escape_as k c) ≤ 2 * width c
-unfolding escape_as size width if◌then◌else◌
+unfolding escape_as size width when◌then◌else◌
 escape_one (mark m) c = omega (arith, width_small c)
 escape_one slash c = omega (arith, width_small c)
 escape_one back c = omega (arith, width_small c)
@@ -31,7 +31,7 @@ escape_size f [] = omega arith
 escape_size f (c ∷ cs) = omega (arith, size_append (escape_as (kind f c) c) (escape f cs), escape_one (kind f c) c, escape_size f cs)
 
 tags_size : (f : Form) (ts : List Tag) → size (write_tags f ts) ≤ length ts + 2 * row_bytes ts
-unfolding write_tags size row_bytes width if◌then◌else◌
+unfolding write_tags size row_bytes width when◌then◌else◌
 tags_size f [] = omega arith
 tags_size f (t ∷ ts) = omega (arith, size_append (escape f t) (write_tags f ts), escape_size f t, tags_size f ts)
 
@@ -81,7 +81,7 @@ module _ (s : Sentence) (h : Formed s) where
       )
 
   tokens_size : (ts : List Token) → size (joined (map (write_token s) ts)) ≤ 143359 * length ts
-  unfolding joined size width if◌then◌else◌
+  unfolding joined size width when◌then◌else◌
   tokens_size [] = omega arith
   tokens_size (t ∷ []) = omega (arith, token_size t)
   tokens_size (t ∷ u ∷ ts) =

@@ -7,7 +7,7 @@ use mathlib.Core.List.{List, []}
 use borrow.Author.Tests.{lt-ltb, ltb-true, not-false}
 use lib.Dec.{ltb}
 use lib.ListN.{length}
-use Rattle.laws.specs.If.{if◌then◌else◌, if_true, if_cases}
+use Rattle.laws.specs.If.{when◌then◌else◌, if_true, if_cases}
 use Rattle.sentence.specs.declared.Refusal.{Refusal}
 use Rattle.sentence.specs.Sentence.{Sentence}
 use Rattle.sentence.specs.declared.Form.{Form}
@@ -45,7 +45,7 @@ near_start e = rw e (omega arith)
 
 -- ---- a reader's: a conversion of the line is refused at the same place
 read_place : (f : ℕ) (x : List ℕ) (n p : ℕ) → no_reader f ≡ false → read (form_of f) x ≡ refused n p → p < 2 ^ 32
-unfolding no_reader no_writer unknown_forms out_of_range conversion between host_order verdict answer_of output_of if◌then◌else◌
+unfolding no_reader no_writer unknown_forms out_of_range conversion between host_order verdict answer_of output_of when◌then◌else◌
 read_place f x n p h e =
     let o : conversion f 1 x 0 0 ≡ refuses (refusal n p) = rw (h, e) in
     small_place f 1 x 0 0 {out = []} {end = []} {q = refusal n p} (record { answer = ap (answer_of 0) (sym o); output = ap (λ (y : Outcome). output_of 0 y []) (sym o) }) refl

@@ -7,7 +7,7 @@ use mathlib.Core.List.{List, [], ◌∷◌}
 use borrow.Author.Tests.{lt-ltb, le-ltb, not-false}
 use lib.Dec.{ltb}
 use lib.ListN.{length, set}
-use Rattle.laws.specs.If.{if◌then◌else◌}
+use Rattle.laws.specs.If.{when◌then◌else◌}
 use Rattle.laws.specs.Put.{over, put_front}
 use Rattle.sentence.specs.declared.Refusal.{Refusal}
 use Rattle.sentence.specs.Sentence.{count}
@@ -51,18 +51,18 @@ told_sentence e i = rw e (record { answer_is = refl; numbers_are = i })
 
 module _ (f : ℕ) (x : List ℕ) (d : Buffers) (ns : List ℕ) {b : Bool} (i : b ≡ no_reader f) where
   pub reads_16 : {c : ℕ} → b ≡ true → c ≡ refusal_code (refusal 16 0) → HostReads f x d ns c d ns
-  unfolding read_first read_code read_numbers host_answer host_leaves verdict if◌then◌else◌
+  unfolding read_first read_code read_numbers host_answer host_leaves verdict when◌then◌else◌
   reads_16 h q = record { answer_is = rw (sym i ∙ h) q; buffers_are = rw (sym i ∙ h) (same_self d); numbers_are = rw (sym i ∙ h) }
 
   pub reads_14 : {z : Refusal} {c : ℕ} → b ≡ false → length ns < 5 → z ≡ refusal 14 0 → c ≡ refusal_code z → HostReads f x d ns c d ns
-  unfolding read_first read_code read_numbers host_answer host_leaves verdict if◌then◌else◌
+  unfolding read_first read_code read_numbers host_answer host_leaves verdict when◌then◌else◌
   reads_14 h l j q =
       let t = lt-ltb (length ns) 5 l in
       record { answer_is = rw (sym i ∙ h, t) (q ∙ ap refusal_code j); buffers_are = rw (sym i ∙ h, t) (same_self d); numbers_are = rw (sym i ∙ h, t) }
 
   pub reads_on : {g : Form} {a : Answer} {e : Buffers} {c : ℕ} {ns' : List ℕ} → b ≡ false → 5 ≤ length ns → g ≡ form_of f
       → ReadDoes (read g x) d a e → ReadTold a ns c ns' → HostReads f x d ns c e ns'
-  unfolding read_first host_answer host_leaves verdict if◌then◌else◌
+  unfolding read_first host_answer host_leaves verdict when◌then◌else◌
   reads_on {a} {c} h l q w p =
       let t = le-ltb (length ns) 5 l in
       let j : a ≡ read_answer (read (form_of f) x) d = rw q at w.answer_is in
@@ -90,11 +90,11 @@ module _ (f : Form) (r : Record) (d : Buffers) {out out' : List ℕ} {a : Number
 
 module _ (f : ℕ) (r : Record) (d : Buffers) (out : List ℕ) {b : Bool} (i : b ≡ no_writer f) where
   pub writes_16 : {c : ℕ} → b ≡ true → c ≡ refusal_code (refusal 16 0) → HostWrites f r d out c out
-  unfolding host_write_order number_code verdict if◌then◌else◌
+  unfolding host_write_order number_code verdict when◌then◌else◌
   writes_16 h q = record { answer_is = rw (sym i ∙ h) q; out_is = rw (sym i ∙ h) }
 
   pub writes_on : {g : Form} {a : Number} {c : ℕ} {out' : List ℕ} → b ≡ false → g ≡ form_of f → Written g r d out a out' → c ≡ number_code a → HostWrites f r d out c out'
-  unfolding host_write_order verdict if◌then◌else◌
+  unfolding host_write_order verdict when◌then◌else◌
   writes_on h j w q = record { answer_is = rw (sym i ∙ h, ← j) (q ∙ ap number_code w.answer_is); out_is = rw (sym i ∙ h, ← j) w.out_is }
 
 -- ---- the withheld copy
@@ -109,7 +109,7 @@ brought_refusal e i = rw (e, i)
 -- an answer of the copy, brought near
 brought : (s t u : Bool) (b n : ℕ) → (s ≡ false → nearest n ≡ n)
     → nearest_in (verdict number.Refused (sheet_order s t b u n) (number.Is n)) ≡ verdict number.Refused (sheet_order s t (nearest b) u n) (number.Is n)
-unfolding verdict nearest nearest_in if◌then◌else◌
+unfolding verdict nearest nearest_in when◌then◌else◌
 brought true t u b n h = refl
 brought false true u b n h = refl
 brought false false true b n h = rw (h refl)
@@ -130,17 +130,17 @@ keys r d w q = record { answer_is = q ∙ ap number_code w.answer_is; out_is = w
 -- ---- a step
 module _ (s : Step) (d : List ℕ) where
   pub steps_14 : {z : Refusal} {c : ℕ} → length d < 2 → z ≡ refusal 14 0 → c ≡ refusal_code z → Tells (next.Is s) d c d
-  unfolding spanned step_code step_span verdict if◌then◌else◌
+  unfolding spanned step_code step_span verdict when◌then◌else◌
   steps_14 l j q = let t = lt-ltb (length d) 2 l in record { answer_is = rw t (q ∙ ap refusal_code j); span_is = rw t }
 
   pub steps_served : {t : Span} → 2 ≤ length d → s ≡ Serves t → Tells (next.Is s) d 1 (set (set d 0 t.start) 1 t.end)
-  unfolding spanned step_code step_span verdict if◌then◌else◌
+  unfolding spanned step_code step_span verdict when◌then◌else◌
   steps_served {t} l e =
       let u = le-ltb (length d) 2 l in
       record { answer_is = rw (u, e); span_is = rw (u, e) (put_front (t.start ∷ t.end ∷ []) d l) }
 
   pub steps_done : {p : ℕ} → 2 ≤ length d → s ≡ Done p → Tells (next.Is s) d 0 (set d 0 p)
-  unfolding spanned step_code step_span verdict if◌then◌else◌
+  unfolding spanned step_code step_span verdict when◌then◌else◌
   steps_done {p} l e =
       let u = le-ltb (length d) 2 l in
       record { answer_is = rw (u, e); span_is = rw (u, e) (put_front (p ∷ []) d (omega arith)) }

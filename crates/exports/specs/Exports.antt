@@ -1,6 +1,6 @@
 -- What the host's calls answer as one number, and what they leave in lent memory.
 use Rattle.std.specs.Prelude.{ℕ, ◌^◌, ◌≡◌, false, List, [], ◌∷◌, ltb, length}
-use Rattle.laws.specs.If.{if◌then◌else◌}
+use Rattle.laws.specs.If.{when◌then◌else◌}
 use Rattle.laws.specs.Put.{over}
 use Rattle.sentence.specs.Sentence.{count}
 use Rattle.sentence.specs.Forms.{no_reader, no_writer, form_of}
@@ -97,7 +97,7 @@ HostWrites f r d out a out' = Puts number_code (host_write_order f r d (length o
 -- ---- the withheld copy
 -- a place as the host's number holds it: 2^32 - 1 stands for every place from there on
 unfoldable pub nearest : ℕ → ℕ
-nearest p = if ltb p 4294967295 then p else 4294967295
+nearest p = when ltb p 4294967295 then p else 4294967295
 
 -- an answer with its refusal at such a place
 unfoldable pub nearest_in : Number → Number

@@ -9,7 +9,7 @@ use native.Mathlib.Nat.{mul-le-mul_right}
 use borrow.Author.Tests.{eq-eqb, ne_eqb, le-ltb, leb-false, not-false}
 use lib.Dec.{leb}
 use lib.ListN.{length, get_or, take}
-use Rattle.laws.specs.If.{if◌then◌else◌}
+use Rattle.laws.specs.If.{when◌then◌else◌}
 use Rattle.laws.proofs.Facts.{or_is, neither}
 use Rattle.utf8.specs.Utf8.{size}
 use Rattle.utf8.proofs.Codec.{no_bytes}
@@ -69,7 +69,7 @@ module _ {r : Record} {d : Buffers} {s : Sentence} (h : Holds r d s) where
   -- a byte position is a character's start where that character starts there
   pub pos_found : (p : ℕ) → p ≤ r.b → get_or d.char_pos_buf (get_or d.byte_pos_buf p 0) 0 ≡ p
       → number.Is (get_or d.byte_pos_buf p 0) ≡ str_to_char_pos_of true s p
-  unfolding str_to_char_pos_of verdict if◌then◌else◌
+  unfolding str_to_char_pos_of verdict when◌then◌else◌
   pos_found p k e =
       let i = get_or d.byte_pos_buf p 0 in
       let l : i ≤ r.n = byte_pos_small h p k in
@@ -81,7 +81,7 @@ module _ {r : Record} {d : Buffers} {s : Sentence} (h : Holds r d s) where
 
   pub pos_inside : (p : ℕ) → p ≤ r.b → (get_or d.char_pos_buf (get_or d.byte_pos_buf p 0) 0 ≡ p → ⊥)
       → number.Refused (record { number = 14; place = p }) ≡ str_to_char_pos_of true s p
-  unfolding str_to_char_pos_of verdict if◌then◌else◌
+  unfolding str_to_char_pos_of verdict when◌then◌else◌
   pos_inside p k e =
       rw (le-ltb (size (text s)) p (omega (arith, bounds h)), found_none (char_positions (text s)) p none)
     where

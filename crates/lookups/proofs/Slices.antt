@@ -7,7 +7,7 @@ use mathlib.Core.List.{List, [], ◌∷◌, map}
 use borrow.Author.Tests.{le-ltb, leb-false, ltb-false, not-false}
 use lib.Dec.{leb, ltb}
 use lib.ListN.{length, take, drop, get_or}
-use Rattle.laws.specs.If.{if◌then◌else◌}
+use Rattle.laws.specs.If.{when◌then◌else◌}
 use Rattle.laws.proofs.Facts.{neither}
 use Rattle.utf8.specs.Utf8.{encodes, size}
 use Rattle.sentence.specs.declared.Refusal.{Refusal}
@@ -39,7 +39,7 @@ cell_of_table s row column h =
 
 -- a character's byte position leads back to it
 pub positions_back : (s : Sentence) (i : ℕ) → i ≤ length (text s) → str_to_char_pos_of true s (start_at s i) ≡ number.Is i
-unfolding str_to_char_pos_of verdict if◌then◌else◌
+unfolding str_to_char_pos_of verdict when◌then◌else◌
 positions_back s i h =
     let p : start_at s i ≡ size (take i (text s)) = start_is 0 (text s) i h ∙ omega arith in
     let n : get_or (byte_positions (text s)) (size (take i (text s))) 0 ≡ i = number_is 0 (text s) i h ∙ omega arith in

@@ -24,7 +24,8 @@ pub fn char_to_str_pos(
     tag_bytes: &[u8],
     i: usize,
 ) -> Number
-    ensures { result ≡ char_to_str_pos_of (is_sheet r (lent_before text.now types.now boundaries.now char_pos.now byte_pos.now cell_starts.now cell_lengths.now tag_bytes.now))
+    ensures { result ≡ char_to_str_pos_of
+        (is_sheet r (lent_before text.now types.now boundaries.now char_pos.now byte_pos.now cell_starts.now cell_lengths.now tag_bytes.now))
         (spell r (lent_before text.now types.now boundaries.now char_pos.now byte_pos.now cell_starts.now cell_lengths.now tag_bytes.now)) i }
 {
     if !sheet::check(
@@ -71,7 +72,8 @@ pub fn str_to_char_pos(
     tag_bytes: &[u8],
     p: usize,
 ) -> Number
-    ensures { result ≡ str_to_char_pos_of (is_sheet r (lent_before text.now types.now boundaries.now char_pos.now byte_pos.now cell_starts.now cell_lengths.now tag_bytes.now))
+    ensures { result ≡ str_to_char_pos_of
+        (is_sheet r (lent_before text.now types.now boundaries.now char_pos.now byte_pos.now cell_starts.now cell_lengths.now tag_bytes.now))
         (spell r (lent_before text.now types.now boundaries.now char_pos.now byte_pos.now cell_starts.now cell_lengths.now tag_bytes.now)) p }
 {
     if !sheet::check(
@@ -117,7 +119,8 @@ pub fn boundary(
     tag_bytes: &[u8],
     i: usize,
 ) -> Number
-    ensures { result ≡ boundary_at (is_sheet r (lent_before text.now types.now boundaries.now char_pos.now byte_pos.now cell_starts.now cell_lengths.now tag_bytes.now))
+    ensures { result ≡ boundary_at
+        (is_sheet r (lent_before text.now types.now boundaries.now char_pos.now byte_pos.now cell_starts.now cell_lengths.now tag_bytes.now))
         (spell r (lent_before text.now types.now boundaries.now char_pos.now byte_pos.now cell_starts.now cell_lengths.now tag_bytes.now)) i }
 {
     if !sheet::check(
@@ -165,7 +168,8 @@ pub fn tag(
     row: usize,
     column: usize,
 ) -> Slice
-    ensures { result ≡ tag_at (is_sheet r (lent_before text.now types.now boundaries.now char_pos.now byte_pos.now cell_starts.now cell_lengths.now tag_bytes.now))
+    ensures { result ≡ tag_at (is_sheet r
+        (lent_before text.now types.now boundaries.now char_pos.now byte_pos.now cell_starts.now cell_lengths.now tag_bytes.now))
         (spell r (lent_before text.now types.now boundaries.now char_pos.now byte_pos.now cell_starts.now cell_lengths.now tag_bytes.now)) row column }
 {
     if !sheet::check(
@@ -213,7 +217,8 @@ pub fn surface(
     start: usize,
     end: usize,
 ) -> Slice
-    ensures { result ≡ surface_at (is_sheet r (lent_before text.now types.now boundaries.now char_pos.now byte_pos.now cell_starts.now cell_lengths.now tag_bytes.now))
+    ensures { result ≡ surface_at
+        (is_sheet r (lent_before text.now types.now boundaries.now char_pos.now byte_pos.now cell_starts.now cell_lengths.now tag_bytes.now))
         (spell r (lent_before text.now types.now boundaries.now char_pos.now byte_pos.now cell_starts.now cell_lengths.now tag_bytes.now)) start end }
 {
     if !sheet::check(

@@ -21,7 +21,8 @@ pub fn char_to_str_pos(
     i: usize,
 ) -> usize
     requires { Sheet r (lent text.now types.now boundaries.now char_pos.now byte_pos.now cell_starts.now cell_lengths.now tag_bytes.now) × (i ≤ r.n) }
-    ensures { result ≡ start_at (spell r (lent_before text.now types.now boundaries.now char_pos.now byte_pos.now cell_starts.now cell_lengths.now tag_bytes.now)) i }
+    ensures { result ≡ start_at (spell r
+        (lent_before text.now types.now boundaries.now char_pos.now byte_pos.now cell_starts.now cell_lengths.now tag_bytes.now)) i }
 {
     char_pos[i] as usize
 }
@@ -40,7 +41,8 @@ pub fn str_to_char_pos(
     p: usize,
 ) -> Number
     requires { Sheet r (lent text.now types.now boundaries.now char_pos.now byte_pos.now cell_starts.now cell_lengths.now tag_bytes.now) × (p ≤ r.b) }
-    ensures { result ≡ str_to_char_pos_of true (spell r (lent_before text.now types.now boundaries.now char_pos.now byte_pos.now cell_starts.now cell_lengths.now tag_bytes.now)) p }
+    ensures { result ≡ str_to_char_pos_of true
+        (spell r (lent_before text.now types.now boundaries.now char_pos.now byte_pos.now cell_starts.now cell_lengths.now tag_bytes.now)) p }
 {
     let i = byte_pos[p] as usize;
     if char_pos[i] as usize == p {
@@ -63,7 +65,8 @@ pub fn boundary(
     i: usize,
 ) -> usize
     requires { Sheet r (lent text.now types.now boundaries.now char_pos.now byte_pos.now cell_starts.now cell_lengths.now tag_bytes.now) × (i < r.n - 1) }
-    ensures { result ≡ mark_at (spell r (lent_before text.now types.now boundaries.now char_pos.now byte_pos.now cell_starts.now cell_lengths.now tag_bytes.now)) i }
+    ensures { result ≡ mark_at (spell r
+        (lent_before text.now types.now boundaries.now char_pos.now byte_pos.now cell_starts.now cell_lengths.now tag_bytes.now)) i }
 {
     boundaries[i] as usize
 }
@@ -86,7 +89,8 @@ pub fn tag(
         × (row < r.n)
         × (column < r.columns) }
     ensures { result ≡ tag_slice
-        (cell_start (rows (spell r (lent_before text.now types.now boundaries.now char_pos.now byte_pos.now cell_starts.now cell_lengths.now tag_bytes.now))) row column)
+        (cell_start (rows (spell r
+        (lent_before text.now types.now boundaries.now char_pos.now byte_pos.now cell_starts.now cell_lengths.now tag_bytes.now))) row column)
         (cell (spell r (lent_before text.now types.now boundaries.now char_pos.now byte_pos.now cell_starts.now cell_lengths.now tag_bytes.now)) row column) }
 {
     let j = row * r.columns + column;
@@ -115,8 +119,10 @@ pub fn surface(
     start: usize,
     end: usize,
 ) -> Slice
-    requires { Sheet r (lent text.now types.now boundaries.now char_pos.now byte_pos.now cell_starts.now cell_lengths.now tag_bytes.now) × (start ≤ r.n) × (end ≤ r.n) }
-    ensures { result ≡ surface_slice (spell r (lent_before text.now types.now boundaries.now char_pos.now byte_pos.now cell_starts.now cell_lengths.now tag_bytes.now)) start
+    requires { Sheet r (lent text.now types.now boundaries.now char_pos.now byte_pos.now cell_starts.now cell_lengths.now tag_bytes.now) × (start ≤ r.n) ×
+        (end ≤ r.n) }
+    ensures { result ≡ surface_slice
+        (spell r (lent_before text.now types.now boundaries.now char_pos.now byte_pos.now cell_starts.now cell_lengths.now tag_bytes.now)) start
         end }
 {
     Slice::Bytes {

@@ -3,7 +3,7 @@ use Prim.Native.Nat.{ℕ}
 use mathlib.Core.Path.{◌≡◌, refl, sym, ◌∙◌}
 use mathlib.Core.Bool.{true, false}
 use mathlib.Core.List.{List}
-use Rattle.laws.specs.If.{if◌then◌else◌}
+use Rattle.laws.specs.If.{when◌then◌else◌}
 use Rattle.sentence.specs.Sentence.{Sentence}
 use Rattle.sentence.specs.declared.Form.{Form}
 use Rattle.sentence.specs.Reading.{Result, read}
@@ -25,11 +25,11 @@ use Rattle.read.specs.Read.{update_answer, update_leaves, UpdateDoes}
 -- ---- an update of buffers that have the one-blank sentence's room
 module _ (f : Form) (x : List ℕ) (d e : Buffers) (a : Answer) (h : lacks d blank ≡ false) (w : UpdateDoes (read f x) d a e) where
   answers : a ≡ read_answer (read f x) d
-  unfolding update_answer read_answer update_order verdict if◌then◌else◌
+  unfolding update_answer read_answer update_order verdict when◌then◌else◌
   answers = w.answer_is ∙ rw h
 
   leaves : e ≡ reader_order (λ (r : Refusal). laid blank d) (lacks d) (λ (s : Sentence). laid s d) (read f x)
-  unfolding update_leaves if◌then◌else◌
+  unfolding update_leaves when◌then◌else◌
   leaves = same_is w.buffers_are ∙ rw h
 
   -- what it leaves where it answers a sentence
@@ -38,7 +38,7 @@ module _ (f : Form) (x : List ℕ) (d e : Buffers) (a : Answer) (h : lacks d bla
 
   -- and where it refuses: the one-blank sentence
   pub update_blank : (q : Refusal) → a ≡ answer.Refused q → Holds (record_of blank) e blank
-  unfolding default_answer verdict lacks if◌then◌else◌
+  unfolding default_answer verdict lacks when◌then◌else◌
   update_blank q i =
       let z : e ≡ laid blank d = leaves ∙ order_refused (read f x) d q (laid blank d) (sym answers ∙ i) in
       default_holds d (answer.Sentence (record_of blank)) e (record_of blank)
@@ -47,5 +47,5 @@ module _ (f : Form) (x : List ℕ) (d e : Buffers) (a : Answer) (h : lacks d bla
 
 -- 15 leaves the buffers as they were
 pub update_kept : (x : Result) (d e : Buffers) (a : Answer) → lacks d blank ≡ true → UpdateDoes x d a e → (a ≡ answer.Refused (refusal 15 0)) × (e ≡ d)
-unfolding update_answer update_leaves update_order verdict if◌then◌else◌
+unfolding update_answer update_leaves update_order verdict when◌then◌else◌
 update_kept x d e a h w = (w.answer_is ∙ rw h, same_is w.buffers_are ∙ rw h)

@@ -1,7 +1,7 @@
 -- The ways through an update: what each has found, and what it answers and leaves. Assumes nothing.
 use mathlib.Core.Path.{◌≡◌, refl, sym, subst, ◌∙◌}
 use mathlib.Core.Bool.{Bool, true, false, not}
-use Rattle.laws.specs.If.{if◌then◌else◌}
+use Rattle.laws.specs.If.{when◌then◌else◌}
 use Rattle.utf8.specs.Utf8.{width, size}
 use Rattle.sentence.specs.Sentence.{Sentence, text_of, rows_of, listed, tag_bytes, row_bytes}
 use Rattle.sentence.specs.Reading.{Result}
@@ -20,23 +20,23 @@ use Rattle.read.specs.Read.{update_answer, update_leaves, UpdateDoes}
 
 -- ---- an update
 blank_record : record { n = 1; b = 1; columns = 0; cells = 0; g = 0 } ≡ record_of blank
-unfolding blank record_of text_of rows_of size width listed tag_bytes row_bytes if◌then◌else◌
+unfolding blank record_of text_of rows_of size width listed tag_bytes row_bytes when◌then◌else◌
 blank_record = refl
 
 module _ (x : Result) (d : Buffers) (ok : Bool) (h : ok ≡ room_of (record { n = 1; b = 1; columns = 0; cells = 0; g = 0 }) d) where
   pub update_lacks : not ok ≡ true → UpdateDoes x d (answer.Refused (refusal 15 0)) d
-  unfolding update_answer update_leaves update_order verdict if◌then◌else◌
+  unfolding update_answer update_leaves update_order verdict when◌then◌else◌
   update_lacks t =
       let l = lacking blank d ok _ blank_record h true t in
       record { answer_is = rw l; buffers_are = rw l (same_self d) }
 
   -- where 15 is not given, the answer is the reader's
   update_answer_lem : not ok ≡ false → update_answer x d ≡ read_answer x d
-  unfolding update_answer read_answer update_order verdict if◌then◌else◌
+  unfolding update_answer read_answer update_order verdict when◌then◌else◌
   update_answer_lem t = rw (lacking blank d ok _ blank_record h false t)
 
   update_leaves_lem : not ok ≡ false → update_leaves x d ≡ reader_order (λ (r : Refusal). laid blank d) (lacks d) (λ (s : Sentence). laid s d) x
-  unfolding update_leaves if◌then◌else◌
+  unfolding update_leaves when◌then◌else◌
   update_leaves_lem t = rw (lacking blank d ok _ blank_record h false t)
 
 pub update_done : (x : Result) (d e : Buffers) (ok : Bool) (a : Answer) (r : Record) → ok ≡ room_of (record { n = 1; b = 1; columns = 0; cells = 0; g = 0 }) d → not ok ≡ false
@@ -50,7 +50,7 @@ update_done x d e ok a r h t w i =
 
 -- the one-blank sentence where the buffers have its room
 default_same : (d e : Buffers) (ok : Bool) (b : Answer) → ok ≡ room_of (record { n = 1; b = 1; columns = 0; cells = 0; g = 0 }) d → not ok ≡ false → DefaultSet d b e → Same (laid blank d) e
-unfolding default_answer verdict lacks if◌then◌else◌
+unfolding default_answer verdict lacks when◌then◌else◌
 default_same d e ok b h t w =
     let i : b ≡ answer.Sentence (record_of blank) = w.answer_is ∙ rw (lacking blank d ok _ blank_record h false t) in
     rw i at w.leaves

@@ -1,5 +1,5 @@
 -- What the updates answer, and what they leave in the buffers.
-use Rattle.laws.specs.If.{if◌then◌else◌}
+use Rattle.laws.specs.If.{when◌then◌else◌}
 use Rattle.sentence.specs.Reading.{Result}
 use Rattle.sentence.specs.Writing.{blank}
 use Rattle.sentence.specs.Refusals.{reader_order, update_order}
@@ -13,7 +13,7 @@ unfoldable pub update_answer : Result → Buffers → Answer
 update_answer x d = update_order answer.Refused (lacks d blank) (lacks d) (λ s. answer.Sentence (record_of s)) x
 
 unfoldable pub update_leaves : Result → Buffers → Buffers
-update_leaves x d = if lacks d blank then d else reader_order (λ r. laid blank d) (lacks d) (λ s. laid s d) x
+update_leaves x d = when lacks d blank then d else reader_order (λ r. laid blank d) (lacks d) (λ s. laid s d) x
 
 abbrev pub UpdateDoes : Result → Buffers → Answer → Buffers → Type 0
 UpdateDoes x d r e = Does (update_answer x d) (update_leaves x d) r e

@@ -4,7 +4,7 @@ use mathlib.Core.Path.{◌≡◌, refl}
 use mathlib.Core.Bool.{Bool, true, false}
 use mathlib.Core.List.{List, [], ◌∷◌}
 use lib.Dec.{eqb}
-use Rattle.laws.specs.If.{if◌then◌else◌}
+use Rattle.laws.specs.If.{when◌then◌else◌}
 use Rattle.utf8.specs.Utf8.{size}
 use Rattle.sentence.specs.Sentence.{Tag, Mark, text_of, marks_of, rows_of, cut}
 use Rattle.sentence.specs.declared.Form.{Form}
@@ -107,10 +107,10 @@ step_begins tokenized (at start) k c = opening_begins 5 start k c
 step_begins tokenized (at (gap m)) k c = opening_begins 6 (gap m) k c
 
 advance_begins : (f : Form) (σ : State) (c : ℕ) → BeginsStep (place_at σ) (advance f σ c)
-unfolding advance if◌then◌else◌
+unfolding advance when◌then◌else◌
 advance_begins f σ c = on (eqb c 0)
   where
-    on : (b : Bool) → BeginsStep (place_at σ) (if b then stop 4 else step f σ (kind f c) c)
+    on : (b : Bool) → BeginsStep (place_at σ) (when b then stop 4 else step f σ (kind f c) c)
     on true = tt
     on false = step_begins f σ (kind f c) c
 

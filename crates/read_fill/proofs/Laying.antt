@@ -7,7 +7,7 @@ use native.Mathlib.Omega.{arith}
 use borrow.Author.Tests.{ltb-false}
 use lib.Dec.{ltb}
 use lib.ListN.{length, take, drop, drop_of_length-le}
-use Rattle.laws.specs.If.{if◌then◌else◌}
+use Rattle.laws.specs.If.{when◌then◌else◌}
 use Rattle.utf8.specs.Utf8.{encode, size, decode_at, walk, valid_prefix, values, scalars, is_char}
 use Rattle.utf8.specs.declared.Decoded.{Decoded}
 use Rattle.utf8.specs.declared.Decoded.TheVariants.{Char, Bad, End}
@@ -43,7 +43,7 @@ record Reads (f : Form) (x : List ℕ) (s : Sentence) : Type 0 where
   builds : built (gather acts) ≡ sentence s
 
 reads_of : (f : Form) (x : List ℕ) (s : Sentence) → read f x ≡ sentence s → Reads f x s
-unfolding read if◌then◌else◌ placed
+unfolding read when◌then◌else◌ placed
 reads_of f x s = long (ltb 4096 (length x)) refl
   where
     ran : (r : Run) → run f (at start) (scalars x) ≡ r → length x ≤ 4096 → valid_prefix x ≡ length x → placed (length x) r ≡ sentence s → Reads f x s
@@ -51,12 +51,12 @@ reads_of f x s = long (ltb 4096 (length x)) refl
     ran (stopped n left) e h v i = let z : ◌≡◌ {A = ℕ} 0 1 = cc in absurd (omega arith)
 
     bad : (b : Bool) → ltb (valid_prefix x) (length x) ≡ b → length x ≤ 4096
-        → (if b then refused 2 (valid_prefix x) else placed (length x) (run f (at start) (scalars x))) ≡ sentence s → Reads f x s
+        → (when b then refused 2 (valid_prefix x) else placed (length x) (run f (at start) (scalars x))) ≡ sentence s → Reads f x s
     bad true e h i = let z : ◌≡◌ {A = ℕ} 0 1 = cc in absurd (omega arith)
     bad false e h i = ran (run f (at start) (scalars x)) refl h (omega (arith, ltb-false (valid_prefix x) (length x) e, valid_within x)) i
 
     long : (b : Bool) → ltb 4096 (length x) ≡ b
-        → (if b then refused 1 4096 else if ltb (valid_prefix x) (length x) then refused 2 (valid_prefix x) else placed (length x) (run f (at start) (scalars x))) ≡ sentence s → Reads f x s
+        → (when b then refused 1 4096 else when ltb (valid_prefix x) (length x) then refused 2 (valid_prefix x) else placed (length x) (run f (at start) (scalars x))) ≡ sentence s → Reads f x s
     long true e i = let z : ◌≡◌ {A = ℕ} 0 1 = cc in absurd (omega arith)
     long false e i = bad (ltb (valid_prefix x) (length x)) refl (ltb-false 4096 (length x) e) i
 
@@ -149,7 +149,7 @@ module _ {f : Form} {c : ℕ} {x : List ℕ} {σ : State} {k : Counts} {p : ℕ}
             omega arith
 
     pub lay-some : v ≡ 0 → ⊥
-    unfolding advance if◌then◌else◌
+    unfolding advance when◌then◌else◌
     lay-some z = rw z at lay-goes
 
     module _ {g : Stepped} (g₁ : g ≡ stepped v (advance f (state_of σ) v)) where

@@ -5,7 +5,7 @@ use mathlib.Core.Bool.{Bool, true, false}
 use mathlib.Core.List.{List}
 use native.Mathlib.Omega.{arith}
 use borrow.Author.Tests.{not-false}
-use Rattle.laws.specs.If.{if◌then◌else◌}
+use Rattle.laws.specs.If.{when◌then◌else◌}
 use Rattle.sentence.specs.Sentence.{Sentence}
 use Rattle.sentence.specs.declared.Form.{Form}
 use Rattle.sentence.specs.Reading.{Result, sentence, refused, read}
@@ -35,11 +35,11 @@ pub record Holding (x : Result) (r : Record) (e : Buffers) : Type 0 where
   pub is_sheet_lem : is_sheet r e ≡ true
 
 pub holding : (f : Form) (x : List ℕ) (d e : Buffers) (r : Record) → read_answer (read f x) d ≡ answer.Sentence r → e ≡ read_leaves (read f x) d → Holding (read f x) r e
-unfolding read_answer read_leaves reader_order verdict lacks if◌then◌else◌
+unfolding read_answer read_leaves reader_order verdict lacks when◌then◌else◌
 holding f x d e r = on (read f x) refl
   where
     laid-down : (s : Sentence) (t : Bool) → read f x ≡ sentence s → lacks d s ≡ t
-        → (if t then answer.Refused (refusal 11 0) else answer.Sentence (record_of s)) ≡ answer.Sentence r → e ≡ (if t then d else laid s d) → Holding (sentence s) r e
+        → (when t then answer.Refused (refusal 11 0) else answer.Sentence (record_of s)) ≡ answer.Sentence r → e ≡ (when t then d else laid s d) → Holding (sentence s) r e
     laid-down s true i l a b = let z : ◌≡◌ {A = ℕ} 0 1 = cc in absurd (omega arith)
     laid-down s false i l a b =
         let q : record_of s ≡ r = cc in

@@ -6,7 +6,7 @@ use mathlib.Core.List.{List}
 use native.Mathlib.Omega.{arith}
 use borrow.Author.Tests.{not-false}
 use lib.ListN.{length}
-use Rattle.laws.specs.If.{if◌then◌else◌}
+use Rattle.laws.specs.If.{when◌then◌else◌}
 use Rattle.utf8.proofs.Codec.{size_long}
 use Rattle.sentence.specs.Sentence.{Sentence, text}
 use Rattle.sentence.specs.declared.Form.{Form}
@@ -59,16 +59,16 @@ read_refused (sentence s) d a q e i = let z : ◌≡◌ {A = ℕ} 0 1 = cc in ab
 read_refused (refused n p) d a q e i = record { answer_is = cc; buffers_are = same_self d }
 
 served_answer : (x : Result) (d : Buffers) (s : Sentence) → x ≡ sentence s → lacks d s ≡ false → read_answer x d ≡ answer.Sentence (record_of s)
-unfolding read_answer reader_order verdict if◌then◌else◌
+unfolding read_answer reader_order verdict when◌then◌else◌
 served_answer x d s e l = rw (e, l)
 
 served_leaves : (x : Result) (d : Buffers) (s : Sentence) → x ≡ sentence s → lacks d s ≡ false → read_leaves x d ≡ filled x d
-unfolding read_leaves reader_order verdict filled if◌then◌else◌
+unfolding read_leaves reader_order verdict filled when◌then◌else◌
 served_leaves x d s e l = rw (e, l)
 
 module _ (x : Result) (d : Buffers) (a : Answer) (r : Record) (ok : Bool) (e : a ≡ scanned x) (i : a ≡ answer.Sentence r) (h : ok ≡ room_of r d) where
   pub read_lacks : not ok ≡ true → ReadDoes x d (answer.Refused (refusal 11 0)) d
-  unfolding read_answer read_leaves reader_order verdict if◌then◌else◌
+  unfolding read_answer read_leaves reader_order verdict when◌then◌else◌
   read_lacks t =
       let g = found x a r e i in
       let l = lacking g.s d ok r g.counts h true t in
@@ -92,20 +92,20 @@ module _ (x : Result) (d : Buffers) (a : Answer) (r : Record) (ok : Bool) (e : a
 -- what a reader's answer says of what an order of refusals gives
 pub order_sentence : (x : Result) (d : Buffers) (r : Record) (b : Buffers) → read_answer x d ≡ answer.Sentence r
     → reader_order (λ (q : Refusal). b) (lacks d) (λ (s : Sentence). laid s d) x ≡ read_leaves x d
-unfolding read_answer read_leaves reader_order verdict if◌then◌else◌
+unfolding read_answer read_leaves reader_order verdict when◌then◌else◌
 order_sentence (sentence s) d r b e = on (lacks d s) e
   where
-    on : (t : Bool) → (if t then answer.Refused (refusal 11 0) else answer.Sentence (record_of s)) ≡ answer.Sentence r → (if t then b else laid s d) ≡ (if t then d else laid s d)
+    on : (t : Bool) → (when t then answer.Refused (refusal 11 0) else answer.Sentence (record_of s)) ≡ answer.Sentence r → (when t then b else laid s d) ≡ (when t then d else laid s d)
     on true e = cc
     on false e = refl
 order_sentence (refused n p) d r b e = cc
 
 pub order_refused : (x : Result) (d : Buffers) (q : Refusal) (b : Buffers) → read_answer x d ≡ answer.Refused q
     → reader_order (λ (q : Refusal). b) (lacks d) (λ (s : Sentence). laid s d) x ≡ b
-unfolding read_answer reader_order verdict if◌then◌else◌
+unfolding read_answer reader_order verdict when◌then◌else◌
 order_refused (sentence s) d q b e = on (lacks d s) e
   where
-    on : (t : Bool) → (if t then answer.Refused (refusal 11 0) else answer.Sentence (record_of s)) ≡ answer.Refused q → (if t then b else laid s d) ≡ b
+    on : (t : Bool) → (when t then answer.Refused (refusal 11 0) else answer.Sentence (record_of s)) ≡ answer.Refused q → (when t then b else laid s d) ≡ b
     on true e = refl
     on false e = cc
 order_refused (refused n p) d q b e = refl

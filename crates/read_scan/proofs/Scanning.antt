@@ -7,7 +7,7 @@ use native.Mathlib.Omega.{arith}
 use borrow.Author.Tests.{lt-ltb, le-ltb, ltb-false}
 use lib.Dec.{ltb}
 use lib.ListN.{length, drop}
-use Rattle.laws.specs.If.{if◌then◌else◌, if_true, if_false, if_map}
+use Rattle.laws.specs.If.{when◌then◌else◌, if_true, if_false, if_map}
 use Rattle.utf8.specs.Utf8.{size, decode_at, valid_prefix, values, scalars}
 use Rattle.utf8.specs.declared.Decoded.{Decoded}
 use Rattle.utf8.specs.declared.Decoded.TheVariants.{Char, Bad, End}
@@ -68,10 +68,10 @@ read_told f x h =
 
 -- what is equal where the line is UTF-8
 or_same : (x : List ℕ) (a b : Answer) → (length x ≤ valid_prefix x → a ≡ b) → or_invalid x a ≡ or_invalid x b
-unfolding or_invalid if◌then◌else◌
+unfolding or_invalid when◌then◌else◌
 or_same x a b h = on (ltb (valid_prefix x) (length x)) refl
   where
-    on : (t : Bool) → ltb (valid_prefix x) (length x) ≡ t → (if t then answer.Refused (refusal 2 (valid_prefix x)) else a) ≡ (if t then answer.Refused (refusal 2 (valid_prefix x)) else b)
+    on : (t : Bool) → ltb (valid_prefix x) (length x) ≡ t → (when t then answer.Refused (refusal 2 (valid_prefix x)) else a) ≡ (when t then answer.Refused (refusal 2 (valid_prefix x)) else b)
     on true e = refl
     on false e = h (ltb-false _ _ e)
 

@@ -1,6 +1,6 @@
 -- What scanning a line answers.
 use Rattle.std.specs.Prelude.{ℕ, ◌-◌, List, ltb, length}
-use Rattle.laws.specs.If.{if◌then◌else◌}
+use Rattle.laws.specs.If.{when◌then◌else◌}
 use Rattle.utf8.specs.Utf8.{valid_prefix}
 use Rattle.sentence.specs.Reading.{Run, whole, stopped, Result, sentence, refused}
 use Rattle.sentence.specs.Refusals.{refusal}
@@ -22,4 +22,4 @@ told n k (stopped e left) = Refused (refusal e (n - left))
 
 -- 2 comes before any other refusal of the line's characters
 unfoldable pub or_invalid : List ℕ → Answer → Answer
-or_invalid x a = if ltb (valid_prefix x) (length x) then Refused (refusal 2 (valid_prefix x)) else a
+or_invalid x a = when ltb (valid_prefix x) (length x) then Refused (refusal 2 (valid_prefix x)) else a

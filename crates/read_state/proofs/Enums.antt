@@ -2,7 +2,7 @@
 use Prim.Native.Nat.{ℕ}
 use mathlib.Core.Path.{◌≡◌, refl, sym, ap, ◌∙◌}
 use mathlib.Core.Bool.{Bool, true, false}
-use Rattle.laws.specs.If.{if◌then◌else◌}
+use Rattle.laws.specs.If.{when◌then◌else◌}
 use Rattle.sentence.specs.Sentence as sentence
 use Rattle.sentence.specs.Reading as reading
 use Rattle.sentence.proofs.Shape.{ActOf}
@@ -42,7 +42,7 @@ act_back c (reading.letter m d) e = rw (mark_is, e)
 act_back c reading.opens e = refl
 act_back c (reading.of_tag d) e = rw e
 
-flags_back : (e : Bool) (p : reading.Place) → state_of (flags_at e p) ≡ (if e then reading.escaped p else reading.at p)
+flags_back : (e : Bool) (p : reading.Place) → state_of (flags_at e p) ≡ (when e then reading.escaped p else reading.at p)
 unfolding flags_at state_of place_of place
 flags_back e reading.start = refl
 flags_back e reading.behind = refl
@@ -51,6 +51,6 @@ flags_back e (reading.gap m) = rw mark_is
 
 -- the flags of a state stand for it
 pub state_back : (σ : reading.State) → state_of (flags σ) ≡ σ
-unfolding flags if◌then◌else◌
+unfolding flags when◌then◌else◌
 state_back (reading.at p) = flags_back false p
 state_back (reading.escaped p) = flags_back true p

@@ -4,7 +4,7 @@ use mathlib.Core.Path.{◌≡◌, refl, sym, ap, ◌∙◌}
 use mathlib.Core.Bool.{Bool, true, false}
 use mathlib.Core.List.{[]}
 use borrow.Author.Tests.{ne_eqb}
-use Rattle.laws.specs.If.{if◌then◌else◌}
+use Rattle.laws.specs.If.{when◌then◌else◌}
 use Rattle.sentence.specs.Sentence as sentence
 use Rattle.sentence.specs.declared.Form.{Form}
 use Rattle.sentence.specs.declared.Form.TheVariants.{Raw as raw, Tokenized as tokenized, Partial as partial}
@@ -71,10 +71,10 @@ unfolding stepped act_in before_in
 handed_back p c t i = rw (i, far_back p)
 
 pub finish_place : (f : Form) (s : State) → finish f (state_of s) ≡ ending f (place_of s)
-unfolding finish state_of if◌then◌else◌
+unfolding finish state_of when◌then◌else◌
 finish_place f s = on s.escape
   where
-    on : (b : Bool) → finish f (if b then escaped (place_of s) else at (place_of s)) ≡ ending f (place_of s)
+    on : (b : Bool) → finish f (when b then escaped (place_of s) else at (place_of s)) ≡ ending f (place_of s)
     on true = refl
     on false = refl
 
@@ -138,11 +138,11 @@ step_meant partial in_tag c w h = inside_meant partial in_tag c w
 -- ---- a character that is not NUL
 module _ (s : State) (f : Form) (c : ℕ) (z : c ≡ 0 → ⊥) where
   pub advance_escaped : s.escape ≡ true → advance f (state_of s) c ≡ ordinary f (place_of s) c
-  unfolding advance state_of step if◌then◌else◌
+  unfolding advance state_of step when◌then◌else◌
   advance_escaped h = rw (ne_eqb c 0 z, h)
 
   advance_at : s.escape ≡ false → advance f (state_of s) c ≡ step f (at (place_of s)) (kind f c) c
-  unfolding advance state_of if◌then◌else◌
+  unfolding advance state_of when◌then◌else◌
   advance_at h = rw (ne_eqb c 0 z, h)
 
   pub advance_literal : s.escape ≡ false → literal f (place_of s) ≡ true → advance f (state_of s) c ≡ ordinary f (place_of s) c

@@ -1,6 +1,6 @@
 -- The flags of the code's state, as places of the definitions' reader, and what a step and the line's end give as the code's enums.
 use Rattle.std.specs.Prelude.{ℕ, Bool, true, false}
-use Rattle.laws.specs.If.{if◌then◌else◌}
+use Rattle.laws.specs.If.{when◌then◌else◌}
 use Rattle.sentence.specs.Sentence as sentence
 use Rattle.sentence.specs.Reading as reading
 use Rattle.sentence.specs.declared.Form.{Form}
@@ -51,7 +51,7 @@ unfoldable pub place_of : State → reading.Place
 place_of s = place s.begun s.prev_space s.tag_open s.mark
 
 unfoldable pub state_of : State → reading.State
-state_of s = if s.escape then reading.escaped (place_of s) else reading.at (place_of s)
+state_of s = when s.escape then reading.escaped (place_of s) else reading.at (place_of s)
 
 -- the flags of a place
 unfoldable pub flags_at : Bool → reading.Place → State

@@ -173,7 +173,8 @@ pub fn turn<'a>(
     tag_bytes: &mut [u8],
 )
     requires { Right index.now blocks.now
-        × Turning columns (act_of s) k line.now at len (lent text.old types.old boundaries.old char_pos.old byte_pos.old cell_starts.old cell_lengths.old tag_bytes.old) }
+        × Turning columns (act_of s) k line.now at len
+        (lent text.old types.old boundaries.old char_pos.old byte_pos.old cell_starts.old cell_lengths.old tag_bytes.old) }
     ensures { Stored columns (λ p. p.emit (act_of s) k) k
         (lent_before text.old types.old boundaries.old char_pos.old byte_pos.old cell_starts.old cell_lengths.old tag_bytes.old)
         (lent_after text.new types.new boundaries.new char_pos.new byte_pos.new cell_starts.new cell_lengths.new tag_bytes.new) }

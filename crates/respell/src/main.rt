@@ -38,12 +38,7 @@ fn number_of(why: io::Error) -> i32 {
 }
 
 // Reads once into a buffer behind a place. A read that failed is told, unless it is to be made again.
-fn read_behind(
-    rt: &impl Eprint,
-    from: &mut impl Read,
-    input: &mut [u8],
-    to: usize,
-) -> Call
+fn read_behind(rt: &impl Eprint, from: &mut impl Read, input: &mut [u8], to: usize) -> Call
     requires { to ≤ length input.old }
     ensures { Behind to input.old result.moved input.new }
 {

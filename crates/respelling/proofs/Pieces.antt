@@ -8,7 +8,7 @@ use borrow.Author.Tests.{lt-ltb, ltb-true, ltb-false, eqb-true, eqb-false, eq-eq
 use lib.Dec.{eqb, ltb}
 use lib.ListN.{length, take, drop, length-append, length-drop, take-append-drop}
 use lib.Seq.{drop-length, drop-drop, length-take-le, take_all}
-use Rattle.laws.specs.If.{if◌then◌else◌, if_true, if_false, if_cases}
+use Rattle.laws.specs.If.{when◌then◌else◌, if_true, if_false, if_cases}
 use Rattle.sentence.specs.declared.Form.{Form}
 use Rattle.sentence.specs.Reading.{refused, read}
 use Rattle.convert_buffers.specs.Between.{between}
@@ -53,7 +53,7 @@ abbrev pub Continues : List ℕ → List ℕ → Done → Type 0
 Continues s y d = respell (s ++ y) ≡ d.prints ++ respell (drop d.used s ++ y)
 
 module _ (last : Bool) (s y : List ℕ) (end : last ≡ true → y ≡ []) where
-  open_continues : length s ≤ line_len s → Continues s y (if last && ltb 0 (length s) then done (length s) (answer s) else done 0 [])
+  open_continues : length s ≤ line_len s → Continues s y (when last && ltb 0 (length s) then done (length s) (answer s) else done 0 [])
   open_continues h =
       if_cases (Continues s y) (last && ltb 0 (length s)) _ _
       (λ e. let a = (and-eq-true_iff last (ltb 0 (length s))).0 e in rw drop-length (last_answer s y (end a.0) (ltb-true _ _ a.1) h))
@@ -123,7 +123,7 @@ module _ (last : Bool) (s : List ℕ) where
 
 -- ---- a call by its first step
 steps_enough : (k j : ℕ) (last : Bool) (room : ℕ) (s : List ℕ) → length s < k → length s < j → steps k last room s ≡ steps j last room s
-unfolding steps if◌then◌else◌
+unfolding steps when◌then◌else◌
 steps_enough zero j last room s h i = absurd (omega arith)
 steps_enough (suc k) zero last room s h i = absurd (omega arith)
 steps_enough (suc k) (suc j) last room s h i =
@@ -135,7 +135,7 @@ steps_enough (suc k) (suc j) last room s h i =
     less : (n : ℕ) → (d.used ≡ 0 → ⊥) → length s < suc n → length (drop d.used s) < n
     less n z h = omega (arith, length-drop d.used s, step_within last s room)
 
-    on : (b : Bool) {x y : Done} → eqb d.used 0 ≡ b → ((d.used ≡ 0 → ⊥) → x ≡ y) → (if b then d else and_then d x) ≡ (if b then d else and_then d y)
+    on : (b : Bool) {x y : Done} → eqb d.used 0 ≡ b → ((d.used ≡ 0 → ⊥) → x ≡ y) → (when b then d else and_then d x) ≡ (when b then d else and_then d y)
     on true e f = refl
     on false e f = ap (and_then d) (f (eqb-false _ _ e))
 

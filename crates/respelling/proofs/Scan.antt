@@ -9,7 +9,7 @@ use borrow.Author.Tests.{eq-eqb, ne_eqb}
 use lib.Dec.{eqb}
 use lib.ListN.{length, get_or, drop, drop_of_length-le}
 use lib.Seq.{drop-cons}
-use Rattle.laws.specs.If.{if◌then◌else◌, if_true, if_false}
+use Rattle.laws.specs.If.{when◌then◌else◌, if_true, if_false}
 use Rattle.respelling.specs.Stream.{line_len}
 
 -- no LF stands before i
@@ -19,7 +19,7 @@ pub record Scanning (s : List ℕ) (i : ℕ) : Type 0 where
 pub scan_start : (s : List ℕ) → Scanning s 0
 scan_start s = record { same = zero-add _ }
 
-len_at : (s : List ℕ) (i : ℕ) → i < length s → line_len (drop i s) ≡ (if eqb (get_or s i 0) 10 then 0 else suc (line_len (drop (i + 1) s)))
+len_at : (s : List ℕ) (i : ℕ) → i < length s → line_len (drop i s) ≡ (when eqb (get_or s i 0) 10 then 0 else suc (line_len (drop (i + 1) s)))
 unfolding line_len
 len_at s i h = rw (add-one, drop-cons s i 0 h)
 

@@ -7,7 +7,7 @@ use mathlib.Core.List.{List, []}
 use borrow.Author.Tests.{lt-ltb, le-ltb}
 use lib.Dec.{ltb}
 use lib.ListN.{length, take}
-use Rattle.laws.specs.If.{if◌then◌else◌, if_true, if_false}
+use Rattle.laws.specs.If.{when◌then◌else◌, if_true, if_false}
 use Rattle.respelling.specs.declared.Turn.{Turn}
 use Rattle.respelling.specs.Puts.{Puts}
 use Rattle.respelling.specs.Respell.{answer}
@@ -28,7 +28,7 @@ module _ {d : Done} {out : List ℕ} {at : ℕ} where
 
 -- a step with room, on a piece without an LF
 opened : (last : Bool) (s : List ℕ) (room n : ℕ) → 8194 ≤ room → n ≡ line_len s → length s ≤ n
-    → step last room s ≡ (if last && ltb 0 (length s) then done (length s) (answer s) else done 0 [])
+    → step last room s ≡ (when last && ltb 0 (length s) then done (length s) (answer s) else done 0 [])
 unfolding step
 opened last s room n l f m = if_false _ _ _ (le-ltb _ _ l) ∙ if_false _ _ _ (le-ltb _ _ (rw f at m))
 

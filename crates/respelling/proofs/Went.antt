@@ -10,7 +10,7 @@ use lib.Dec.{eqb, leb, ltb}
 use lib.IntN.{ℤ}
 use lib.ListN.{length, take, drop, length-append, length-take, length-drop}
 use lib.Seq.{take-append_seam, take-take, take_all, take-add, drop-drop, length-take-le}
-use Rattle.laws.specs.If.{if◌then◌else◌, if_true, if_false, if_cases}
+use Rattle.laws.specs.If.{when◌then◌else◌, if_true, if_false, if_cases}
 use Rattle.respelling.specs.declared.Stand.{Stand}
 use Rattle.respelling.specs.declared.Call.{Call}
 use Rattle.respelling.specs.Stream.{Done, turn}
@@ -44,11 +44,11 @@ module _ (s : Stand) (input out : List ℕ) (k : Stands s input out) where
 
   -- where nothing could be answered, at most 4,099 bytes are held
   cut_held : drop s.from (take (held_end s.from s.to 0) input) ≡ take 4099 (drop s.from (take s.to input))
-  unfolding held_end if◌then◌else◌
+  unfolding held_end when◌then◌else◌
   cut_held = on (ltb 4099 (s.to - s.from)) refl
     where
       on : (b : Bool) → ltb 4099 (s.to - s.from) ≡ b
-          → drop s.from (take (if b then s.from + 4099 else s.to) input) ≡ take 4099 (drop s.from (take s.to input))
+          → drop s.from (take (when b then s.from + 4099 else s.to) input) ≡ take 4099 (drop s.from (take s.to input))
       on true e =
           let l : 4099 < s.to - s.from = ltb-true _ _ e in
           let z : s.from + 4099 - s.from ≡ 4099 = omega arith in
@@ -58,15 +58,15 @@ module _ (s : Stand) (input out : List ℕ) (k : Stands s input out) where
           sym (take_all 4099 (drop s.from (take s.to input)) (omega (arith, between_length s.from s.to input k.input_in)))
 
   held_after : drop (s.from + made.used) (take (held_end s.from s.to made.used) input)
-      ≡ (if eqb made.used 0 then take 4099 (drop s.from (take s.to input)) else drop made.used (drop s.from (take s.to input)))
-  unfolding if◌then◌else◌ held_end
+      ≡ (when eqb made.used 0 then take 4099 (drop s.from (take s.to input)) else drop made.used (drop s.from (take s.to input)))
+  unfolding when◌then◌else◌ held_end
   held_after = on (eqb made.used 0) refl
     where
       on : (b : Bool) → eqb made.used 0 ≡ b
           → drop (s.from + made.used) (take (held_end s.from s.to made.used) input)
-          ≡ (if b then take 4099 (drop s.from (take s.to input)) else drop made.used (drop s.from (take s.to input)))
+          ≡ (when b then take 4099 (drop s.from (take s.to input)) else drop made.used (drop s.from (take s.to input)))
       on true e = rw (eqb-true made.used 0 e, add-zero) cut_held
-      on false e = rw (drop-drop, if_false (eqb made.used 0) (if ltb 4099 (s.to - s.from) then s.from + 4099 else s.to) s.to e)
+      on false e = rw (drop-drop, if_false (eqb made.used 0) (when ltb 4099 (s.to - s.from) then s.from + 4099 else s.to) s.to e)
 
   end_in : held_end s.from s.to made.used ≤ s.to
   unfolding held_end
@@ -87,7 +87,7 @@ module _ (s : Stand) (input out : List ℕ) (k : Stands s input out) where
   few_left : eqb made.used 0 ≡ true → held_end s.from s.to made.used ≤ s.from + made.used + 4099
   unfolding held_end
   few_left z =
-      rw (if_true (eqb made.used 0) (if ltb 4099 (s.to - s.from) then s.from + 4099 else s.to) s.to z)
+      rw (if_true (eqb made.used 0) (when ltb 4099 (s.to - s.from) then s.from + 4099 else s.to) s.to z)
       (if_cases (λ (n : ℕ). n ≤ s.from + made.used + 4099) (ltb 4099 (s.to - s.from)) _ _ (λ _. omega arith) (λ e. omega (arith, ltb-false)))
 
   pub went_answer : {r : Stand} {out' : List ℕ} → s.wrote ≤ s.put → s.waits ≡ false
@@ -116,12 +116,12 @@ module _ (s : Stand) (input out : List ℕ) (k : Stands s input out) where
 -- what stands does not change, but that the run is over where the call is not made again
 after_failed : (s : Stand) (input out : List ℕ) (again : Bool) → calls (state_of s input out) ≡ true
     → Move (length out) (state_of s input out) [] [] (state_of (after_failure s again) input out)
-unfolding after_failure if◌then◌else◌ state_of fails
+unfolding after_failure when◌then◌else◌ state_of fails
 after_failed s input out true c = by_nothing c
 after_failed s input out false c = by_failure c
 
 stands_failed : (s : Stand) (input out : List ℕ) (again : Bool) → Stands s input out → Stands (after_failure s again) input out
-unfolding after_failure if◌then◌else◌
+unfolding after_failure when◌then◌else◌
 stands_failed s input out true k = k
 stands_failed s input out false k = record { held_in = k.held_in; input_in = k.input_in; due_in = k.due_in; output_in = k.output_in; few = k.few }
 

@@ -8,7 +8,7 @@ use borrow.Author.Tests.{eqb-true, ltb-true}
 use lib.Dec.{eqb, ltb}
 use lib.ListN.{length, take, drop, take-append-drop}
 use lib.Seq.{drop-drop}
-use Rattle.laws.specs.If.{if◌then◌else◌, if_true, if_false, if_cases}
+use Rattle.laws.specs.If.{when◌then◌else◌, if_true, if_false, if_cases}
 use Rattle.laws.proofs.Facts.{neither}
 use Rattle.respelling.specs.Respell.{before, lines, answers, respell, fed, whole}
 use Rattle.respelling.specs.Stream.{line_len, Done, step, and_then, steps, turn}
@@ -91,7 +91,7 @@ abbrev Keeps : List ℕ → Done → Type 0
 Keeps s d = respell (whole s) ≡ d.prints ++ respell (whole (drop d.used s))
 
 step_keeps : (room : ℕ) (s : List ℕ) → Keeps s (step false room s)
-unfolding step respell answers if◌then◌else◌
+unfolding step respell answers when◌then◌else◌
 step_keeps room s =
     if_cases (Keeps s) (ltb room 8194) _ _ (λ _. refl)
     (λ _. if_cases (Keeps s) (ltb (line_len s) (length s)) _ _ (λ e. let l : line_len s < length s = ltb-true _ _ e in rw (first_line s l) refl) (λ _. refl))

@@ -1,7 +1,7 @@
 -- The example of document 01, and lines of many cells: what is printed, and what is wanted.
 use Rattle.std.specs.Prelude.{ℕ, ◌≡◌, refl, List, [], ◌∷◌, ◌++◌, map, replicate}
 use Prim.Native.Char.{code as chr}
-use Rattle.laws.specs.If.{if◌then◌else◌}
+use Rattle.laws.specs.If.{when◌then◌else◌}
 use Rattle.laws.specs.Quoted.{quoted}
 use Rattle.utf8.specs.Utf8.{utf8_2, utf8_3, utf8_4, char_of, walk, wholes, values, encode, encodes, width, size}
 use Rattle.utf8.specs.Text.{utf8_of}
@@ -37,8 +37,9 @@ examples =
     ∷ []
 
 pub example : map (λ (e : List ℕ × List ℕ). e.0) examples ≡ map (λ (e : List ℕ × List ℕ). e.1) examples
-unfolding examples quoted if◌then◌else◌ utf8_2 utf8_3 utf8_4 char_of walk wholes values encode encodes width size text_of marks_of rows_of onto cut pad kind
+unfolding examples quoted when◌then◌else◌ utf8_2 utf8_3 utf8_4 char_of walk wholes values encode encodes width size text_of marks_of rows_of onto cut pad kind
     ordinary inside opening step advance unfinished ending finish push follow run before add gather built placed read tokens escape_as escape write_tags
-    write_token joined sign shown write_partial line verdict host_order no_reader no_writer form_of unknown_forms overfull between out_of_range conversion digits
+    write_token joined sign shown write_partial line verdict host_order no_reader no_writer form_of unknown_forms overfull between out_of_range conversion
+    digits
     decimal letter outcome printed lines answers respell Respell·before
 example = refl

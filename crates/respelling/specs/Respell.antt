@@ -1,7 +1,7 @@
 -- The program: its answer to a line, and to a whole input.
 use Rattle.std.specs.Prelude.{ℕ, Bool, false, ◌||◌, List, [], ◌∷◌, ◌++◌, eqb}
 use Prim.Native.Char.{code as chr}
-use Rattle.laws.specs.If.{if◌then◌else◌}
+use Rattle.laws.specs.If.{when◌then◌else◌}
 use Rattle.sentence.specs.Forms.{letter}
 use Rattle.sentence.specs.Refusals.{refusal}
 use Rattle.convert_buffers.specs.Between.{Outcome, writes, refuses}
@@ -30,7 +30,7 @@ before b (l ∷ ls) = (b ∷ l) ∷ ls
 -- the lines of an input, each ended by LF or by the end; a last LF starts no further line
 unfoldable pub lines : List ℕ → List (List ℕ)
 lines [] = []
-lines (b ∷ s) = if eqb b (chr "\n") then [] ∷ lines s else before b (lines s)
+lines (b ∷ s) = when eqb b (chr "\n") then [] ∷ lines s else before b (lines s)
 
 unfoldable pub answers : List (List ℕ) → List ℕ
 answers [] = []
@@ -48,4 +48,4 @@ fed (b ∷ s) = eqb b (chr "\n") || fed s
 -- the lines of an input whose LF is there: the bytes up to the last LF
 unfoldable pub whole : List ℕ → List ℕ
 whole [] = []
-whole (b ∷ s) = if fed (b ∷ s) then b ∷ whole s else []
+whole (b ∷ s) = when fed (b ∷ s) then b ∷ whole s else []

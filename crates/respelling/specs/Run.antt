@@ -1,7 +1,7 @@
 -- The program between its calls of the system: what stands, how each call moves it, and what a run has read and written.
 use Rattle.std.specs.Prelude.{ℕ, ◌+◌, ◌-◌, ◌≤◌, ◌<◌, ◌≡◌, Bool, true, false, not, ◌&&◌, ◌||◌, List, [], ◌++◌, eqb, leb, ltb, ℤ, pos, negsuc, length, take, drop}
 use Rattle.std.specs.Int.Signed.{lt_z, le_z}
-use Rattle.laws.specs.If.{if◌then◌else◌}
+use Rattle.laws.specs.If.{when◌then◌else◌}
 use Rattle.laws.specs.Put.{over}
 use Rattle.respelling.specs.Puts.{Puts}
 use Rattle.respelling.specs.Respell.{respell, whole}
@@ -42,7 +42,7 @@ unfoldable pub answers : ℕ → State → State
 answers room a =
     let d : Done = turn a.ended room a.held in
     record {
-      held = if eqb d.used 0 then take 4099 a.held else drop d.used a.held;
+      held = when eqb d.used 0 then take 4099 a.held else drop d.used a.held;
       due = d.prints;
       ended = a.ended;
       waits = eqb d.used 0;
@@ -102,7 +102,7 @@ first = record { from = 0; to = 0; put = 0; wrote = 0; last = false; waits = tru
 
 -- where the bytes end that are held, after so many were answered: of a line that has not ended 4,099 are enough
 unfoldable pub held_end : ℕ → ℕ → ℕ → ℕ
-held_end from to used = if eqb used 0 then (if ltb 4099 (to - from) then from + 4099 else to) else to
+held_end from to used = when eqb used 0 then (when ltb 4099 (to - from) then from + 4099 else to) else to
 
 -- what is answered of what is held, and the output after it
 unfoldable pub answered_stand : Stand → Done → Stand
@@ -141,19 +141,19 @@ write_told got moved error = record { moved = moved; failed = le_z got (pos 0); 
 -- a call that failed, made again where that is asked
 unfoldable pub after_failure : Stand → Bool → Stand
 after_failure s again =
-    if again then s
+    when again then s
     else record { from = s.from; to = s.to; put = s.put; wrote = s.wrote; last = s.last; waits = s.waits; failed = true }
 
 -- a read: bytes behind those that are held, or none, since the input has ended
 unfoldable pub after_read : Stand → Call → Stand
 after_read s c =
-    if c.failed then after_failure s c.again
+    when c.failed then after_failure s c.again
     else record { from = s.from; to = s.to + c.moved; put = s.put; wrote = s.wrote; last = s.last || eqb c.moved 0; waits = false; failed = s.failed }
 
 -- a write of some of the bytes that are due
 unfoldable pub after_write : Stand → Call → Stand
 after_write s c =
-    if c.failed then after_failure s c.again
+    when c.failed then after_failure s c.again
     else record { from = s.from; to = s.to; put = s.put + c.moved; wrote = s.wrote; last = s.last; waits = s.waits; failed = s.failed }
 
 -- so many bytes moved into a buffer behind a place: no byte before it is altered

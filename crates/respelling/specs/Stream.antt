@@ -1,7 +1,7 @@
 -- The program on a piece of input: what is done with it in one call.
 use Rattle.std.specs.Prelude.{ℕ, zero, suc, ◌+◌, ◌-◌, ◌≤◌, ◌≡◌, Bool, ◌&&◌, List, [], ◌∷◌, ◌++◌, eqb, ltb, length, take, drop}
 use Prim.Native.Char.{code as chr}
-use Rattle.laws.specs.If.{if◌then◌else◌}
+use Rattle.laws.specs.If.{when◌then◌else◌}
 use Rattle.laws.specs.Put.{over}
 use Rattle.respelling.specs.Puts.{Puts}
 use Rattle.respelling.specs.Respell.{answer}
@@ -10,7 +10,7 @@ use Rattle.respelling.specs.declared.Turn.{Turn}
 -- the bytes before the first LF
 unfoldable pub line_len : List ℕ → ℕ
 line_len [] = 0
-line_len (b ∷ s) = if eqb b (chr "\n") then 0 else suc (line_len s)
+line_len (b ∷ s) = when eqb b (chr "\n") then 0 else suc (line_len s)
 
 -- what stands behind the first LF
 unfoldable pub past_line : List ℕ → List ℕ
@@ -28,9 +28,9 @@ done u p = record { used = u; prints = p }
 -- done where there is no such line, or no room for the longest answer
 unfoldable pub step : Bool → ℕ → List ℕ → Done
 step last room s =
-    if ltb room 8194 then done 0 []
-    else if ltb (line_len s) (length s) then done (line_len s + 1) (answer (take (line_len s) s))
-    else if last && ltb 0 (length s) then done (length s) (answer s)
+    when ltb room 8194 then done 0 []
+    else when ltb (line_len s) (length s) then done (line_len s + 1) (answer (take (line_len s) s))
+    else when last && ltb 0 (length s) then done (length s) (answer s)
     else done 0 []
 
 -- one thing done after another
@@ -42,7 +42,7 @@ unfoldable pub steps : ℕ → Bool → ℕ → List ℕ → Done
 steps zero last room s = done 0 []
 steps (suc more) last room s =
     let d : Done = step last room s in
-    if eqb d.used 0 then d else and_then d (steps more last (room - length d.prints) (drop d.used s))
+    when eqb d.used 0 then d else and_then d (steps more last (room - length d.prints) (drop d.used s))
 
 -- all that is done with a piece in one call
 unfoldable pub turn : Bool → ℕ → List ℕ → Done

@@ -22,8 +22,10 @@ pub fn predict(
     tag_bytes: &[u8],
     scores: &[i32],
 ) -> Answer
-    ensures { Predicted r (lent_before text.now types.now boundaries.old char_pos.now byte_pos.now cell_starts.now cell_lengths.now tag_bytes.now) scores.now result
-        (with_boundaries boundaries.new (lent_before text.now types.now boundaries.old char_pos.now byte_pos.now cell_starts.now cell_lengths.now tag_bytes.now)) }
+    ensures { Predicted r (lent_before text.now types.now boundaries.old char_pos.now byte_pos.now cell_starts.now cell_lengths.now tag_bytes.now)
+        scores.now result
+        (with_boundaries boundaries.new
+        (lent_before text.now types.now boundaries.old char_pos.now byte_pos.now cell_starts.now cell_lengths.now tag_bytes.now)) }
 {
     if !sheet::check(
         r,

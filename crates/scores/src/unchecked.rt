@@ -40,11 +40,13 @@ pub fn predict(
     tag_bytes: &[u8],
     scores: &[i32],
 ) -> Answer
-    requires { Sheet r (lent text.now types.now boundaries.old char_pos.now byte_pos.now cell_starts.now cell_lengths.now tag_bytes.now) × (length scores.now ≡ r.n - 1) }
+    requires { Sheet r (lent text.now types.now boundaries.old char_pos.now byte_pos.now cell_starts.now cell_lengths.now tag_bytes.now) ×
+        (length scores.now ≡ r.n - 1) }
     ensures { Laid
         (scored scores.now (spell r (lent_before text.now types.now boundaries.old char_pos.now byte_pos.now cell_starts.now cell_lengths.now tag_bytes.now)))
         (lent_before text.now types.now boundaries.old char_pos.now byte_pos.now cell_starts.now cell_lengths.now tag_bytes.now) result
-        (with_boundaries boundaries.new (lent_before text.now types.now boundaries.old char_pos.now byte_pos.now cell_starts.now cell_lengths.now tag_bytes.now)) }
+        (with_boundaries boundaries.new
+        (lent_before text.now types.now boundaries.old char_pos.now byte_pos.now cell_starts.now cell_lengths.now tag_bytes.now)) }
 {
     fill(scores, boundaries);
     Answer::Sentence(Record {

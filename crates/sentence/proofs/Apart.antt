@@ -6,7 +6,7 @@ use mathlib.Core.List.{List, [], ◌∷◌, ◌++◌, append_assoc}
 use native.Mathlib.Omega.{arith}
 use lib.Dec.{eqb}
 use lib.ListN.{get_or}
-use Rattle.laws.specs.If.{if◌then◌else◌}
+use Rattle.laws.specs.If.{when◌then◌else◌}
 use Rattle.laws.specs.All.{All-append}
 use Rattle.utf8.specs.Utf8.{scalars, encodes}
 use Rattle.utf8.proofs.Codec.{scalars_after, all_scalar, encodes_scalars, encodes_append}
@@ -100,10 +100,10 @@ step_apart f σ k c x y (a_back p e i) h = rw i h
 
 -- ---- a line that ends behind a lone backslash, with more behind it
 go_shown : (f : Form) (σ : State) (c : ℕ) (σ' : State) (a : Act) → advance f σ c ≡ go σ' a → Shown σ (kind f c) c (go σ' a)
-unfolding advance if◌then◌else◌
+unfolding advance when◌then◌else◌
 go_shown f σ c σ' a e = on (eqb c 0) e
   where
-    on : (b : Bool) → (if b then stop 4 else step f σ (kind f c) c) ≡ go σ' a → Shown σ (kind f c) c (go σ' a)
+    on : (b : Bool) → (when b then stop 4 else step f σ (kind f c) c) ≡ go σ' a → Shown σ (kind f c) c (go σ' a)
     on true i = absurd (let z : ◌≡◌ {A = ℕ} 0 1 = cc in omega arith)
     on false i = subst (Shown σ (kind f c) c) i (step_shown f σ (kind f c) c)
 
@@ -114,7 +114,7 @@ marks_apart c d e = let z : ◌≡◌ {A = ℕ} 0 1 = cc in omega arith
 module _ (m : Mark) (g : ℕ) (nz : eqb g 0 ≡ false) (k : ℕ) (u : Cells) (y : List ℕ) where
   sign_apart : (f : Form) → Annotated f → (f ≡ tokenized → m ≡ word) → (p : Place) (q x : Parsed) → gathered (ending f p) ≡ got q → reads f (escaped p) (g ∷ y) ≡ got x
       → Apart p x (joined m k u q)
-  unfolding ending gathered gather joined attach advance step ordinary add if◌then◌else◌
+  unfolding ending gathered gather joined attach advance step ordinary add when◌then◌else◌
   sign_apart f an w start q x i e = absurd (let z : ◌≡◌ {A = ℕ} 0 1 = cc in omega arith)
   sign_apart f an w (gap j) q x i e = absurd (let z : ◌≡◌ {A = ℕ} 0 1 = cc in omega arith)
   sign_apart f an w in_tag q x i e = on (step_goes f (escaped in_tag) g y x e)

@@ -7,7 +7,7 @@ use native.Mathlib.Omega.{arith}
 use borrow.Author.Tests.{ltb-false}
 use lib.Dec.{eqb, ltb}
 use lib.ListN.{length, length-append}
-use Rattle.laws.specs.If.{if◌then◌else◌}
+use Rattle.laws.specs.If.{when◌then◌else◌}
 use Rattle.laws.specs.All.{All-append}
 use Rattle.utf8.specs.Utf8.{scalars, valid_prefix, scalar, encode, encodes, size}
 use Rattle.utf8.proofs.Codec.{valid_within, all_scalar, encodes_scalars, encodes_append}
@@ -146,10 +146,10 @@ raw_leads (escaped in_tag) c h = absurd h
 raw_leads (escaped (gap m)) c h = tt
 
 leads : (f : Form) (σ : State) (c : ℕ) → Stands f (place_of σ) → Leads f (advance f σ c)
-unfolding advance if◌then◌else◌
+unfolding advance when◌then◌else◌
 leads raw σ c h = on (eqb c 0)
   where
-    on : (b : Bool) → Leads raw (if b then stop 4 else step raw σ (kind raw c) c)
+    on : (b : Bool) → Leads raw (when b then stop 4 else step raw σ (kind raw c) c)
     on true = tt
     on false = raw_leads σ c h
 leads tokenized σ c h = on (advance tokenized σ c)
@@ -243,8 +243,8 @@ module _ (m : Mark) where
   unfolding step ordinary
   escaped_pair f k c = texts c
 
-  nul_pair : (b : Bool) (s t : Step) → Pair s t → Pair (if b then stop 4 else s) (if b then stop 4 else t)
-  unfolding if◌then◌else◌
+  nul_pair : (b : Bool) (s t : Step) → Pair s t → Pair (when b then stop 4 else s) (when b then stop 4 else t)
+  unfolding when◌then◌else◌
   nul_pair true s t h = stops 4 4
   nul_pair false s t h = h
 
@@ -284,7 +284,7 @@ pub record IsRead (f : Form) (x : List ℕ) (s : Sentence) : Type 0 where
   pub builds : built all ≡ sentence s
 
 is_read : (f : Form) (x : List ℕ) (s : Sentence) → read f x ≡ sentence s → IsRead f x s
-unfolding read if◌then◌else◌ gathered placed
+unfolding read when◌then◌else◌ gathered placed
 is_read f x s e = long (ltb 4096 (length x)) refl e
   where
     ran : (r : Run) → run f (at start) (scalars x) ≡ r → placed (length x) r ≡ sentence s → (p : Parsed) × (gathered r ≡ got p) × (built p ≡ sentence s)
@@ -292,7 +292,7 @@ is_read f x s e = long (ltb 4096 (length x)) refl e
     ran (stopped n l) q h = absurd (let z : ◌≡◌ {A = ℕ} 0 1 = cc in omega arith)
 
     bad-or : (b : Bool) → ltb (valid_prefix x) (length x) ≡ b → length x ≤ 4096
-        → (if b then refused 2 (valid_prefix x) else placed (length x) (run f (at start) (scalars x))) ≡ sentence s → IsRead f x s
+        → (when b then refused 2 (valid_prefix x) else placed (length x) (run f (at start) (scalars x))) ≡ sentence s → IsRead f x s
     bad-or true q le h = absurd (let z : ◌≡◌ {A = ℕ} 0 1 = cc in omega arith)
     bad-or false q le h = let (p, u, v) = ran (run f (at start) (scalars x)) refl h in record {
       valid = omega (arith, ltb-false (valid_prefix x) (length x) q, valid_within x);
@@ -303,7 +303,7 @@ is_read f x s e = long (ltb 4096 (length x)) refl e
     }
 
     long : (b : Bool) → ltb 4096 (length x) ≡ b
-        → (if b then refused 1 4096 else if ltb (valid_prefix x) (length x) then refused 2 (valid_prefix x) else placed (length x) (run f (at start) (scalars x))) ≡ sentence s → IsRead f x s
+        → (when b then refused 1 4096 else when ltb (valid_prefix x) (length x) then refused 2 (valid_prefix x) else placed (length x) (run f (at start) (scalars x))) ≡ sentence s → IsRead f x s
     long true q h = absurd (let z : ◌≡◌ {A = ℕ} 0 1 = cc in omega arith)
     long false q h = bad-or (ltb (valid_prefix x) (length x)) refl (ltb-false 4096 (length x) q) h
 
@@ -338,7 +338,7 @@ glue_scalars tokenized m = (refl, tt)
 glue_scalars partial m = (sign_scalar m, tt)
 
 pub glue_encodes : (f : Form) (m : Mark) → encodes (glue f m) ≡ glue f m
-unfolding glue sign encodes encode if◌then◌else◌
+unfolding glue sign encodes encode when◌then◌else◌
 glue_encodes raw m = refl
 glue_encodes tokenized m = refl
 glue_encodes partial none = refl

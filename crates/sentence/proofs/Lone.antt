@@ -8,7 +8,7 @@ use borrow.Author.Tests.{eqb-true}
 use lib.Dec.{eqb}
 use lib.ListN.{length, get_or, length-append}
 use lib.Seq.{take-append_seam, get_or-append_seam}
-use Rattle.laws.specs.If.{if◌then◌else◌}
+use Rattle.laws.specs.If.{when◌then◌else◌}
 use Rattle.laws.specs.All.{All, All-take}
 use Rattle.laws.proofs.Facts.{untrue}
 use Rattle.utf8.specs.Utf8.{scalars, encode, encodes}
@@ -36,11 +36,11 @@ slash_backs : (c : ℕ) → Backs (c, slash)
 slash_backs c e = absurd (let z : ◌≡◌ {A = ℕ} 0 1 = cc in omega arith)
 
 back_entry : (es : List (ℕ × Kind)) (c : ℕ) → All Backs es → look es c ≡ back → c ≡ 92
-unfolding look if◌then◌else◌
+unfolding look when◌then◌else◌
 back_entry [] c a h = absurd (let z : ◌≡◌ {A = ℕ} 0 1 = cc in omega arith)
 back_entry (e ∷ es) c a h = on (eqb c e.0) refl h (back_entry es c a.1)
   where
-    on : (b : Bool) → eqb c e.0 ≡ b → (if b then e.1 else look es c) ≡ back → (look es c ≡ back → c ≡ 92) → c ≡ 92
+    on : (b : Bool) → eqb c e.0 ≡ b → (when b then e.1 else look es c) ≡ back → (look es c ≡ back → c ≡ 92) → c ≡ 92
     on true q i more = eqb-true c e.0 q ∙ a.0 i
     on false q i more = more i
 
@@ -68,10 +68,10 @@ step_awaits f σ k c = on (step f σ k c) (step_shown f σ k c)
     on s (a_stop n) = tt
 
 advance_awaits : (f : Form) (σ : State) (c : ℕ) → Awaits σ (kind f c) (advance f σ c)
-unfolding advance if◌then◌else◌
+unfolding advance when◌then◌else◌
 advance_awaits f σ c = on (eqb c 0)
   where
-    on : (b : Bool) → Awaits σ (kind f c) (if b then stop 4 else step f σ (kind f c) c)
+    on : (b : Bool) → Awaits σ (kind f c) (when b then stop 4 else step f σ (kind f c) c)
     on true = tt
     on false = step_awaits f σ (kind f c) c
 
@@ -100,7 +100,7 @@ lone_end f (c ∷ cs) σ h = on (advance f σ c) refl h (lone_end f cs)
 -- an accepted line that ends so ends in a backslash, and reads the same without it
 pub lone_dropped : (f : Form) (x : List ℕ) (s : Sentence) → read f x ≡ sentence s → ends_lone f x ≡ true
     → (w : List ℕ) × (x ≡ w ++ (92 ∷ [])) × (read f w ≡ sentence s) × (ends_lone f w ≡ false)
-unfolding encodes encode if◌then◌else◌
+unfolding encodes encode when◌then◌else◌
 lone_dropped f x s e h = on (lone_end f (scalars x) (at start) h)
   where
     on : LoneEnd f (at start) (scalars x) → (w : List ℕ) × (x ≡ w ++ (92 ∷ [])) × (read f w ≡ sentence s) × (ends_lone f w ≡ false)
@@ -122,8 +122,8 @@ plain_end f x s e h = untrue (ends_lone f x) (λ i. let (w, b, r, l) = lone_drop
         rw (n, b) (get_or-append_seam w 92 [] 0)
 
 -- ---- no written line ends behind a lone backslash
-onward_if : (b : Bool) (s : Step) (more : State → Bool) → onward s more ≡ false → onward (if b then stop 4 else s) more ≡ false
-unfolding onward if◌then◌else◌
+onward_if : (b : Bool) (s : Step) (more : State → Bool) → onward s more ≡ false → onward (when b then stop 4 else s) more ≡ false
+unfolding onward when◌then◌else◌
 onward_if true s more h = refl
 onward_if false s more h = h
 

@@ -5,7 +5,7 @@ use mathlib.Core.Bool.{true, false}
 use mathlib.Core.List.{List, [], ◌∷◌, ◌++◌, append_assoc, append-nil}
 use lib.Dec.{eqb}
 use lib.ListN.{length}
-use Rattle.laws.specs.If.{if◌then◌else◌}
+use Rattle.laws.specs.If.{when◌then◌else◌}
 use Rattle.laws.specs.All.{All}
 use Rattle.sentence.specs.Sentence.{Tag, Mark, none, word, Char}
 use Rattle.sentence.specs.declared.Form.{Form}
@@ -40,13 +40,13 @@ adds_skip (got p) = refl
 adds_skip (bad e left) = refl
 
 pub kind_back : (f : Form) → Annotated f → kind f 92 ≡ back
-unfolding kind if◌then◌else◌
+unfolding kind when◌then◌else◌
 kind_back raw h = absurd h
 kind_back tokenized h = refl
 kind_back partial h = refl
 
 pub kind_slash : (f : Form) → Annotated f → kind f 47 ≡ slash
-unfolding kind if◌then◌else◌
+unfolding kind when◌then◌else◌
 kind_slash raw h = absurd h
 kind_slash tokenized h = refl
 kind_slash partial h = refl
@@ -54,7 +54,7 @@ kind_slash partial h = refl
 -- one step, at a character of a known kind
 pub reads_go : (f : Form) (σ : State) (k : Kind) (c : ℕ) (x : List ℕ) {σ' : State} {a : Act} → kind f c ≡ k → eqb c 0 ≡ false → step f σ k c ≡ go σ' a
     → reads f σ (c ∷ x) ≡ adds a (reads f σ' x)
-unfolding run advance follow if◌then◌else◌
+unfolding run advance follow when◌then◌else◌
 reads_go f σ k c x {σ'} {a} e z s = rw (z, e, s) (gathered_push a (run f σ' x))
 
 -- what comes after a character's tags, or after the character where it has none

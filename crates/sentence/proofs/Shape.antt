@@ -7,7 +7,7 @@ use native.Mathlib.Omega.{arith}
 use lib.Dec.{eqb, ltb}
 use borrow.Author.Tests.{ltb-false}
 use lib.ListN.{length}
-use Rattle.laws.specs.If.{if◌then◌else◌}
+use Rattle.laws.specs.If.{when◌then◌else◌}
 use Rattle.laws.specs.All.{All}
 use Rattle.utf8.specs.Utf8.{scalars, valid_prefix, scalar, width, size}
 use Rattle.utf8.proofs.Codec.{width_small, length_encodes, encodes_scalars, valid_within, all_scalar}
@@ -158,11 +158,11 @@ module _ (f : Form) (P : State → List ℕ → Parsed → Type 0) where
   pub run_keeps : ((σ : State) → P σ [] (parsed [] [] 0 over))
       → ((σ : State) (c : ℕ) (x : List ℕ) → Char c → Keeps σ c x (step f σ (kind f c) c))
       → (x : List ℕ) (σ : State) → All (λ c. scalar c ≡ true) x → Of σ x (run f σ x)
-  unfolding run advance if◌then◌else◌
+  unfolding run advance when◌then◌else◌
   run_keeps ends steps [] σ h = finish_keeps σ (ends σ)
   run_keeps ends steps (c ∷ x) σ h = follow_keeps (advance f σ c) σ c x (size (c ∷ x)) (on (eqb c 0) refl) (λ σ'. run_keeps ends steps x σ' h.1)
     where
-      on : (b : Bool) → eqb c 0 ≡ b → Keeps σ c x (if b then stop 4 else step f σ (kind f c) c)
+      on : (b : Bool) → eqb c 0 ≡ b → Keeps σ c x (when b then stop 4 else step f σ (kind f c) c)
       on true e = tt
       on false e = steps σ c x (record { is_scalar = h.0; not_nul = e })
 
@@ -272,10 +272,10 @@ Tokenwise back = Unit {0}
 Tokenwise plain = Unit {0}
 
 kind_tokenwise : (c : ℕ) → Tokenwise (kind tokenized c)
-unfolding kind if◌then◌else◌
+unfolding kind when◌then◌else◌
 kind_tokenwise c = on (eqb c 32) (eqb c 47) (eqb c 92)
   where
-    on : (a b d : Bool) → Tokenwise (if a then mark word else if b then slash else if d then back else plain)
+    on : (a b d : Bool) → Tokenwise (when a then mark word else when b then slash else when d then back else plain)
     on true b d = tt
     on false true d = tt
     on false false true = tt
@@ -450,11 +450,11 @@ scalars_size : (x : List ℕ) → valid_prefix x ≡ length x → size (scalars 
 scalars_size x e = sym (length_encodes (scalars x)) ∙ ap length (encodes_scalars x e)
 
 read_answers : (f : Form) (x : List ℕ) → Answers f (length x) (read f x)
-unfolding read if◌then◌else◌
+unfolding read when◌then◌else◌
 read_answers f x = long (ltb 4096 (length x)) refl
   where
     bad : (b : Bool) → ltb (valid_prefix x) (length x) ≡ b → length x ≤ 4096
-        → Answers f (length x) (if b then refused 2 (valid_prefix x) else placed (length x) (run f (at start) (scalars x)))
+        → Answers f (length x) (when b then refused 2 (valid_prefix x) else placed (length x) (run f (at start) (scalars x)))
     bad true e le = tt
     bad false e le =
         let v : valid_prefix x ≡ length x = omega (arith, ltb-false (valid_prefix x) (length x) e, valid_within x) in
@@ -462,7 +462,7 @@ read_answers f x = long (ltb 4096 (length x)) refl
         (run_good f (scalars x) (at start) (all_scalar x)) (tokenized_shaped f (scalars x) (all_scalar x)))
 
     long : (b : Bool) → ltb 4096 (length x) ≡ b
-        → Answers f (length x) (if b then refused 1 4096 else if ltb (valid_prefix x) (length x) then refused 2 (valid_prefix x) else placed (length x) (run f (at start) (scalars x)))
+        → Answers f (length x) (when b then refused 1 4096 else when ltb (valid_prefix x) (length x) then refused 2 (valid_prefix x) else placed (length x) (run f (at start) (scalars x)))
     long true e = tt
     long false e = bad (ltb (valid_prefix x) (length x)) refl (ltb-false 4096 (length x) e)
 

@@ -9,7 +9,7 @@ use lib.Dec.{leb, ltb}
 use borrow.Author.Tests.{leb-true, leb-false, le-leb, lt-leb, ltb-true}
 use lib.ListN.{length, drop, length-drop}
 use lib.Seq.{drop-drop}
-use Rattle.laws.specs.If.{if◌then◌else◌, if_true, if_false}
+use Rattle.laws.specs.If.{when◌then◌else◌, if_true, if_false}
 use Rattle.laws.proofs.Sized.{by_size}
 use Rattle.sentence.specs.Sentence.{Mark, none, word, unknown}
 use Rattle.sentence.specs.Writing.{Token, token, tokens, tokens_from, Served, serves, done, first, next_token_of}
@@ -56,7 +56,7 @@ heads false b e (word ∷ l) h = earlier b e e word l (tokens true e (e + 1) l) 
 -- ---- one step of the cursor
 -- the tokens from a cursor on: none where no character is left
 unfoldable pub onward : List Mark → ℕ → List Token
-onward ms p = if leb (length ms + 1) p then [] else tokens_from ms p
+onward ms p = when leb (length ms + 1) p then [] else tokens_from ms p
 
 -- a token that lies in order, at or after a cursor and within the text
 pub record InOrder (ms : List Mark) (p b e : ℕ) : Type 0 where
@@ -86,7 +86,7 @@ Ordered p n (token b e ∷ ts) = (p ≤ b) × (b < e) × Ordered e n ts
 -- how many of the tokens a character is in
 unfoldable pub holding : ℕ → List Token → ℕ
 holding c [] = 0
-holding c (token b e ∷ ts) = (if leb b c && ltb c e then 1 else 0) + holding c ts
+holding c (token b e ∷ ts) = (when leb b c && ltb c e then 1 else 0) + holding c ts
 
 -- none, where the character stands before the tokens, and one at most
 record Single (c p : ℕ) (ts : List Token) : Type 0 where
@@ -125,10 +125,10 @@ module _ (ms : List Mark) where
           rw (drop-drop, j) at (k.more (omega (arith, all, leb-false n e z))) ∙ sym (onward_at e (leb-false n e z))
 
   next_is : (p : ℕ) → Next ms p (onward ms p) (next_token_of ms n p)
-  unfolding next_token_of onward if◌then◌else◌
+  unfolding next_token_of onward when◌then◌else◌
   next_is p = on (leb n p) refl
     where
-      on : (t : Bool) → leb n p ≡ t → Next ms p (if t then [] else tokens_from ms p) (if t then done p else first n (tokens_from ms p))
+      on : (t : Bool) → leb n p ≡ t → Next ms p (when t then [] else tokens_from ms p) (when t then done p else first n (tokens_from ms p))
       on true z = (refl, omega (arith, leb-true n p z))
       on false z = first_next p (tokens_from ms p) (leb-false n p z) (heads true p (p + 1) (drop p ms) (omega arith))
 
@@ -179,7 +179,7 @@ module _ (ms : List Mark) where
 
   -- a character is in at most one of them
   onward_single : (c p : ℕ) → p ≤ n → Single c p (onward ms p)
-  unfolding holding if◌then◌else◌
+  unfolding holding when◌then◌else◌
   onward_single c = by-steps (λ p ts. Single c p ts) (λ p h s. record { none_before = λ l. refl; one = omega arith }) more
     where
       more : (p b e : ℕ) (ts : List Token) → next_token_of ms n p ≡ serves (token b e) → InOrder ms p b e → Single c e ts → Single c p (token b e ∷ ts)

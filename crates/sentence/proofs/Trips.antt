@@ -7,7 +7,7 @@ use native.Mathlib.Omega.{arith}
 use lib.Dec.{eqb}
 use lib.ListN.{length, take, drop, get_or, replicate, length-append, length-replicate, replicate-append-replicate}
 use lib.Seq.{take_at, drop_at, drop-drop, get_or-drop}
-use Rattle.laws.specs.If.{if◌then◌else◌}
+use Rattle.laws.specs.If.{when◌then◌else◌}
 use Rattle.laws.specs.All.{All, All-append}
 use Rattle.sentence.specs.Sentence.{Tag, Mark, none, word, unknown, Cells, final, cell, Sentence, text_of, marks_of, rows_of, text, rows, onto, cut, pad, Char, Row, CellsOf}
 use Rattle.sentence.specs.declared.Form.{Form}
@@ -114,7 +114,7 @@ module _ (f : Form) (an : Annotated f) (n c : ℕ) (r : List Tag) (h : Row n r) 
 
 -- ---- the partial form
 pub kind_sign : (m : Mark) → kind partial (sign m) ≡ mark m
-unfolding kind sign if◌then◌else◌
+unfolding kind sign when◌then◌else◌
 kind_sign none = refl
 kind_sign word = refl
 kind_sign unknown = refl
@@ -183,7 +183,7 @@ pub takes : {p : Place} {m : Mark} → Takes p m → (c : ℕ) (x : List ℕ) �
 takes {p} o c x z = reads_char tokenized tt p (kind tokenized c) c x refl z o.escapes (o.plainly_so c) (o.puts c)
 
 pub kind_space : kind tokenized 32 ≡ mark word
-unfolding kind if◌then◌else◌
+unfolding kind when◌then◌else◌
 kind_space = refl
 
 text_cell : (m : Mark) (c : ℕ) (s : Cells) (n : ℕ) → adds (letter m c) (got (parsed [] [] n (next none s))) ≡ got (parsed [] [] n (next m (cell c [] none s)))

@@ -9,7 +9,7 @@ use native.Mathlib.Omega.{arith}
 use lib.Dec.{leb, ltb}
 use borrow.Author.Tests.{le-ltb, lt-ltb, le-leb, lt-leb, leb-true, leb-false, ltb-true, ltb-false}
 use lib.ListN.{length, get_or}
-use Rattle.laws.specs.If.{if◌then◌else◌, if_true, if_false}
+use Rattle.laws.specs.If.{when◌then◌else◌, if_true, if_false}
 use Rattle.laws.specs.All.{All-imp}
 use Rattle.laws.proofs.Facts.{neither}
 use Rattle.utf8.specs.Utf8.{encodes}
@@ -86,13 +86,13 @@ text_some (cell c r m t) e = let w : ◌≡◌ {A = ℕ} 0 1 = cc in omega arith
 
 module _ (b e : ℕ) where
   -- a row, and a boundary, that agree where they are not hidden
-  row_same : (t : Bool) (r q : List Tag) → cut r ≡ r → cut q ≡ q → (t ≡ false → (j : ℕ) → get_or r j [] ≡ get_or q j []) → (if t then [] else r) ≡ (if t then [] else q)
-  unfolding if◌then◌else◌
+  row_same : (t : Bool) (r q : List Tag) → cut r ≡ r → cut q ≡ q → (t ≡ false → (j : ℕ) → get_or r j [] ≡ get_or q j []) → (when t then [] else r) ≡ (when t then [] else q)
+  unfolding when◌then◌else◌
   row_same true r q a c h = refl
   row_same false r q a c h = rows_same r q a c (h refl)
 
-  mark_same : (t : Bool) (m k : Mark) → (t ≡ false → m ≡ k) → (if t then unknown else m) ≡ (if t then unknown else k)
-  unfolding if◌then◌else◌
+  mark_same : (t : Bool) (m k : Mark) → (t ≡ false → m ≡ k) → (when t then unknown else m) ≡ (when t then unknown else k)
+  unfolding when◌then◌else◌
   mark_same true m k h = refl
   mark_same false m k h = h refl
 
@@ -128,7 +128,7 @@ nothing_in : (b i : ℕ) → in_range b b i ≡ false
 nothing_in b i = none_in b b i (omega arith)
 
 pub hidden_none : (b i : ℕ) (s : Cells) → hidden b b i s ≡ s
-unfolding hidden touches if◌then◌else◌
+unfolding hidden touches when◌then◌else◌
 hidden_none b i (final c r) = rw (nothing_in b i)
 hidden_none b i (cell c r m s) = rw (nothing_in b i, nothing_in b (i + 1), hidden_none b (i + 1) s)
 
@@ -194,8 +194,8 @@ present_last n w (cell c r m s) h e = on (leb (widest s) (length r)) refl (λ q.
     on false q f = let (i, p) = f (omega (arith, leb-false (widest s) (length r) q)) in (suc i, p)
 
 -- ---- the withheld copy is a sentence too, and its line reads back
-row_hidden : (n : ℕ) (t : Bool) (r : List Tag) → Row n r → Row n (if t then [] else r)
-unfolding if◌then◌else◌ cut
+row_hidden : (n : ℕ) (t : Bool) (r : List Tag) → Row n r → Row n (when t then [] else r)
+unfolding when◌then◌else◌ cut
 row_hidden n true r h = record { chars = tt; is_cut = refl; fits = omega arith }
 row_hidden n false r h = h
 
@@ -212,8 +212,8 @@ pub withheld_reads : (b e : ℕ) (s : Sentence) → CellsOf s.columns s.cells �
 withheld_reads b e s h l = read_written partial (withheld b e s) (cells_withheld b e s h) tt l
 
 -- ---- a copy is within the limits
-fewer : (t : Bool) (r : List Tag) → row_bytes (if t then [] else r) ≤ row_bytes r
-unfolding if◌then◌else◌ row_bytes
+fewer : (t : Bool) (r : List Tag) → row_bytes (when t then [] else r) ≤ row_bytes r
+unfolding when◌then◌else◌ row_bytes
 fewer true r = omega arith
 fewer false r = omega arith
 
@@ -244,12 +244,12 @@ mark_shown b e i zero (cell c r m s) h = if_false _ _ _ (rw add-zero at h)
 mark_shown b e i (suc l) (cell c r m s) h = let f : i + suc l ≡ i + 1 + l = omega arith in mark_shown b e (i + 1) l s (rw f at h)
 
 -- a row is hidden or as it was
-none_either : (t : Bool) → ◌≡◌ {A = List Tag} [] (if t then [] else [])
-unfolding if◌then◌else◌
+none_either : (t : Bool) → ◌≡◌ {A = List Tag} [] (when t then [] else [])
+unfolding when◌then◌else◌
 none_either true = refl
 none_either false = refl
 
-pub row_at : (b e i l : ℕ) (s : Cells) → get_or (rows_of (hidden b e i s)) l [] ≡ (if in_range b e (i + l) then [] else get_or (rows_of s) l [])
+pub row_at : (b e i l : ℕ) (s : Cells) → get_or (rows_of (hidden b e i s)) l [] ≡ (when in_range b e (i + l) then [] else get_or (rows_of s) l [])
 unfolding hidden rows_of
 row_at b e i zero (final c r) = rw add-zero
 row_at b e i (suc l) (final c r) = none_either (in_range b e (i + suc l))
@@ -314,17 +314,17 @@ letters m (c ∷ x) = letter m c ∷ letters unknown x
 
 raw_runs : (σ : State) (m : Mark) (n : ℕ) (s : Cells) → ((c : ℕ) → step raw σ plain c ≡ go (at behind) (letter m c)) → CellsOf n s
     → run raw σ (text_of s) ≡ whole (letters m (text_of s))
-unfolding run advance follow push finish ending kind step inside ordinary letters text_of if◌then◌else◌
+unfolding run advance follow push finish ending kind step inside ordinary letters text_of when◌then◌else◌
 raw_runs σ m n (final c r) h k = rw (k.0.not_nul, h c)
 raw_runs σ m n (cell c r l s) h k = rw (k.0.not_nul, h c, raw_runs (at behind) unknown n s (λ d. refl) k.2)
 
 gather_letters : (e i : ℕ) (m : Mark) (s : Cells) → i + length (text_of s) ≤ e → gather (letters m (text_of s)) ≡ parsed [] [] 0 (next m (hidden 0 e i s))
-unfolding gather add before letters text_of hidden touches cut if◌then◌else◌
+unfolding gather add before letters text_of hidden touches cut when◌then◌else◌
 gather_letters e i m (final c r) h = rw (in_all e i (omega arith))
 gather_letters e i m (cell c r l s) h = rw (in_all e i (omega arith), gather_letters e (i + 1) unknown s (omega arith))
 
 widest_all : (e i : ℕ) (s : Cells) → i + length (text_of s) ≤ e → widest (hidden 0 e i s) ≡ 0
-unfolding widest text_of hidden if◌then◌else◌
+unfolding widest text_of hidden when◌then◌else◌
 widest_all e i (final c r) h = rw (in_all e i (omega arith))
 widest_all e i (cell c r l s) h = rw (in_all e i (omega arith), widest_all e (i + 1) s (omega arith))
 

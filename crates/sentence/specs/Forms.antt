@@ -1,7 +1,7 @@
 -- The number and the letter of a form, and which form a number or a letter stands for.
 use Rattle.std.specs.Prelude.{ℕ, zero, suc, ◌≡◌, refl, Bool, ◌||◌, eqb, ltb}
 use Prim.Native.Char.{code as chr}
-use Rattle.laws.specs.If.{if◌then◌else◌}
+use Rattle.laws.specs.If.{when◌then◌else◌}
 use Rattle.sentence.specs.declared.Form.{Form}
 use Rattle.sentence.specs.declared.Form.TheVariants.{Raw as raw, Tokenized as tokenized, Partial as partial}
 
@@ -41,7 +41,7 @@ form_of_number partial = refl
 -- the number of a letter's form; 3 is no form
 unfoldable pub letter : ℕ → ℕ
 letter b =
-    if eqb b (letter_of raw) then number_of raw
-    else if eqb b (letter_of tokenized) then number_of tokenized
-    else if eqb b (letter_of partial) then number_of partial
+    when eqb b (letter_of raw) then number_of raw
+    else when eqb b (letter_of tokenized) then number_of tokenized
+    else when eqb b (letter_of partial) then number_of partial
     else 3

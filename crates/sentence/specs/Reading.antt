@@ -1,7 +1,7 @@
 -- Reading a line: one reader, a small state that each character steps, for the raw, the tokenized and the partial form.
 use Rattle.std.specs.Prelude.{ℕ, zero, ◌+◌, ◌-◌, max, true, false, List, [], ◌∷◌, ◌++◌, eqb, ltb, length}
 use Prim.Native.Char.{code as chr}
-use Rattle.laws.specs.If.{if◌then◌else◌}
+use Rattle.laws.specs.If.{when◌then◌else◌}
 use Rattle.utf8.specs.Utf8.{scalars, valid_prefix, size}
 use Rattle.sentence.specs.declared.Form.{Form}
 use Rattle.sentence.specs.declared.Form.TheVariants.{Raw as raw, Tokenized as tokenized, Partial as partial}
@@ -25,7 +25,7 @@ kinds partial = (chr " ", mark unknown) ∷ (chr "-", mark none) ∷ (chr "|", m
 
 unfoldable pub look : List (ℕ × Kind) → ℕ → Kind
 look [] c = plain
-look (e ∷ es) c = if eqb c e.0 then e.1 else look es c
+look (e ∷ es) c = when eqb c e.0 then e.1 else look es c
 
 unfoldable pub kind : Form → ℕ → Kind
 unfolding kinds look
@@ -89,7 +89,7 @@ step tokenized (at (gap m)) k c = opening 6 (gap m) k c
 
 -- NUL is refused wherever it stands
 unfoldable pub advance : Form → State → ℕ → Step
-advance f σ c = if eqb c 0 then stop 4 else step f σ (kind f c) c
+advance f σ c = when eqb c 0 then stop 4 else step f σ (kind f c) c
 
 -- the acts of a line's characters, or a refusal with its number and how many bytes were left
 pub data Run : Type 0 where
@@ -167,6 +167,6 @@ placed n (stopped e left) = refused e (n - left)
 -- 1, then 2, then the first of 3 to 10 in reading order
 unfoldable pub read : Form → List ℕ → Result
 read f x =
-    if ltb 4096 (length x) then refused 1 4096
-    else if ltb (valid_prefix x) (length x) then refused 2 (valid_prefix x)
+    when ltb 4096 (length x) then refused 1 4096
+    else when ltb (valid_prefix x) (length x) then refused 2 (valid_prefix x)
     else placed (length x) (run f (at start) (scalars x))

@@ -1,6 +1,6 @@
 -- The refusals of a call, in their order. Which is given is the first whose test is true.
 use Rattle.std.specs.Prelude.{ℕ, ◌+◌, ◌*◌, ◌^◌, ◌<◌, Bool, true, false, List, [], ◌∷◌}
-use Rattle.laws.specs.If.{if◌then◌else◌}
+use Rattle.laws.specs.If.{when◌then◌else◌}
 use Rattle.sentence.specs.declared.Refusal.{Refusal}
 use Rattle.sentence.specs.Sentence.{Sentence}
 use Rattle.sentence.specs.Reading.{Result, sentence, refused}
@@ -24,7 +24,7 @@ pub data Check : Type 0 where
 -- the answer of a call that makes these checks before it serves
 unfoldable pub verdict : {A : Type 0} → (Refusal → A) → List Check → A → A
 verdict refuse [] served = served
-verdict refuse (check b n p ∷ cs) served = if b then refuse (refusal n p) else verdict refuse cs served
+verdict refuse (check b n p ∷ cs) served = when b then refuse (refusal n p) else verdict refuse cs served
 
 -- a call on a sheet: 13; 14, at the first number given; 12, at the length needed
 abbrev pub sheet_order : Bool → Bool → ℕ → Bool → ℕ → List Check

@@ -1,6 +1,6 @@
 -- A sentence with columns cut back to those in use, and one with the labels of a range of characters withheld.
 use Rattle.std.specs.Prelude.{ℕ, suc, ◌+◌, ◌≤◌, ◌<◌, max, ◌≡◌, Bool, true, false, ◌&&◌, ◌||◌, [], leb, ltb, length, get_or}
-use Rattle.laws.specs.If.{if◌then◌else◌}
+use Rattle.laws.specs.If.{when◌then◌else◌}
 use Rattle.sentence.specs.Sentence.{Tag, none, unknown, Cells, final, cell, Sentence, text, marks, rows, count}
 
 -- character i is one of those from b up to e
@@ -13,8 +13,8 @@ touches b e i = in_range b e i || in_range b e (i + 1)
 
 -- the cells from the i-th character on: no tag in the range, no known boundary that touches it
 unfoldable pub hidden : ℕ → ℕ → ℕ → Cells → Cells
-hidden b e i (final c r) = final c (if in_range b e i then [] else r)
-hidden b e i (cell c r m s) = cell c (if in_range b e i then [] else r) (if touches b e i then unknown else m) (hidden b e (i + 1) s)
+hidden b e i (final c r) = final c (when in_range b e i then [] else r)
+hidden b e i (cell c r m s) = cell c (when in_range b e i then [] else r) (when touches b e i then unknown else m) (hidden b e (i + 1) s)
 
 -- the columns in use: a row ends at its last present tag, so the longest row ends at the last column that has one
 unfoldable pub widest : Cells → ℕ

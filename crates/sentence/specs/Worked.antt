@@ -1,7 +1,7 @@
 -- Worked lines: what is asked of a line, and the answer, as numbers. The first of them are document 01's marked ones.
 use Rattle.std.specs.Prelude.{ℕ, zero, ◌≡◌, refl, true, false, List, [], ◌∷◌, ◌++◌, map, ℤ, pos, negsuc}
 use Prim.Native.Char.{code as chr}
-use Rattle.laws.specs.If.{if◌then◌else◌}
+use Rattle.laws.specs.If.{when◌then◌else◌}
 use Rattle.laws.specs.Quoted.{quoted}
 use Rattle.utf8.specs.Utf8.{utf8_2, utf8_3, utf8_4, char_of, walk, wholes, values, width, encode, encodes, size}
 use Rattle.utf8.specs.Text.{utf8_of}
@@ -210,7 +210,7 @@ given c = answer c.ask (read c.form c.bytes)
 
 -- every worked line has its answer
 pub worked_lines : map given worked ≡ map (λ (c : Case). c.wanted) worked
-unfolding worked quoted given told answer spans served_as tags_as if◌then◌else◌ utf8_2 utf8_3 utf8_4 char_of walk wholes values width encode encodes size find
+unfolding worked quoted given told answer spans served_as tags_as when◌then◌else◌ utf8_2 utf8_3 utf8_4 char_of walk wholes values width encode encodes size find
     ranges type_of code text_of marks_of rows_of starts numbers onto cut pad kind ordinary inside opening step advance unfinished ending finish push follow run
     before add gather built placed read tokens first next_token_of escape_as escape write_tags write_token joined sign shown write_partial line bare marked
     reset_tags_of set_mark set_boundary_of decision scored blank in_range touches hidden widest trimmed withheld glue

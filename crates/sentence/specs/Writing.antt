@@ -1,7 +1,7 @@
 -- Tokens, the written lines, the note key, and the changes of a sentence.
 use Rattle.std.specs.Prelude.{ℕ, zero, suc, ◌+◌, ◌-◌, Bool, true, false, List, [], ◌∷◌, ◌++◌, map, leb, ℤ, pos, negsuc, length, take, drop, get_or}
 use Prim.Native.Char.{code as chr}
-use Rattle.laws.specs.If.{if◌then◌else◌}
+use Rattle.laws.specs.If.{when◌then◌else◌}
 use Rattle.utf8.specs.Utf8.{encodes}
 use Rattle.sentence.specs.Sentence.{Tag, Mark, none, word, unknown, Cells, final, cell, Sentence, text, marks, rows, cut, pad}
 use Rattle.sentence.specs.Withheld.{trimmed}
@@ -37,7 +37,7 @@ first n [] = done n
 first n (t ∷ ts) = serves t
 
 unfoldable pub next_token_of : List Mark → ℕ → ℕ → Served
-next_token_of ms n p = if leb n p then done p else first n (tokens_from ms p)
+next_token_of ms n p = when leb n p then done p else first n (tokens_from ms p)
 
 -- the characters from b up to e
 abbrev pub surface : Sentence → ℕ → ℕ → List ℕ

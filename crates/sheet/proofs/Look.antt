@@ -10,7 +10,7 @@ use mathlib.Core.List.{List, [], ◌∷◌, ◌++◌, append-nil, append_assoc}
 use lib.ListN.{length, get_or, take, drop, replicate, length-append, length-drop, length-replicate, get_or-replicate, take-append-drop, drop_of_length-le, get_or-append, get_or-map}
 use lib.Seq.{length-take-le, take-suc, drop-cons, take-add, take-take, take-nil, take_all, take-length, take_at, drop_at, take-append-le, take-append-add, drop-append-le, get_or-take, get_or-append-add}
 use borrow.Author.Tests.{not-false}
-use Rattle.laws.specs.If.{if◌then◌else◌}
+use Rattle.laws.specs.If.{when◌then◌else◌}
 use Rattle.laws.specs.All.{All}
 use Rattle.utf8.specs.Utf8.{decode_at, width, encodes, size}
 use Rattle.utf8.specs.declared.Decoded.TheVariants.{Char}
@@ -386,15 +386,15 @@ module _ {r : Record} {d : Buffers} {s : Sentence} (h : Holds r d s) where
 -- ---- the answers of a call that goes by whether there is a sheet: g is what the check answered, `out` whether a number is out of range
 module _ {A : Type 0} (refuse : Refusal → A) (g good out : Bool) (first : ℕ) (served : A) (e : g ≡ good) where
   pub broken : not g ≡ true → refuse (refusal 13 0) ≡ verdict refuse (sheet_order (not good) out first false 0) served
-  unfolding verdict if◌then◌else◌
+  unfolding verdict when◌then◌else◌
   broken h = rw (← e, h)
 
   pub outside : not g ≡ false → out ≡ true → refuse (refusal 14 first) ≡ verdict refuse (sheet_order (not good) out first false 0) served
-  unfolding verdict if◌then◌else◌
+  unfolding verdict when◌then◌else◌
   outside h o = rw (← e, h, o)
 
   pub inside : not g ≡ false → out ≡ false → (a : A) → a ≡ served → a ≡ verdict refuse (sheet_order (not good) out first false 0) served
-  unfolding verdict if◌then◌else◌
+  unfolding verdict when◌then◌else◌
   inside h o a s = s ∙ rw (← e, h, o)
 
 -- what a check that was passed says
@@ -408,7 +408,7 @@ Passed (check b n p ∷ cs) = (b ≡ false) × Passed cs
 
 pub passed : {A : Type 0} (refuse : Refusal → A) (a : A) → ((x : Refusal) → refuse x ≡ a → ⊥)
     → (cs : List Check) (served : A) → verdict refuse cs served ≡ a → Passed cs × (served ≡ a)
-unfolding verdict if◌then◌else◌
+unfolding verdict when◌then◌else◌
 passed refuse a apart [] served e = (tt, e)
 passed refuse a apart (check true n p ∷ cs) served e = absurd (apart _ e)
 passed refuse a apart (check false n p ∷ cs) served e = let k = passed refuse a apart cs served e in ((refl, k.0), k.1)

@@ -61,7 +61,8 @@ fn fits(
     cell_lengths: &[u16],
     tag_bytes: &[u8],
 ) -> bool
-    ensures { result ≡ (in_limits r && room_for r (lent_before text.now types.now boundaries.now char_pos.now byte_pos.now cell_starts.now cell_lengths.now tag_bytes.now)) }
+    ensures { result ≡ (in_limits r && room_for r
+        (lent_before text.now types.now boundaries.now char_pos.now byte_pos.now cell_starts.now cell_lengths.now tag_bytes.now)) }
 {
     in_limits(r)
         & ((r.b <= text.len())

@@ -8,7 +8,7 @@ use borrow.Author.Tests.{eq-eqb, eqb-true, ne_eqb, eqb-false, not-true, not-fals
 use lib.Dec.{eqb, leb, eqb-zero-suc, eqb-suc-zero}
 use lib.ListN.{length, take, drop, get_or, length-take, length-drop, replicate}
 use lib.Seq.{drop-drop}
-use Rattle.laws.specs.If.{if◌then◌else◌}
+use Rattle.laws.specs.If.{when◌then◌else◌}
 use Rattle.laws.specs.Put.{drop_step, drop_none}
 use Rattle.utf8.specs.declared.Decoded.{Decoded}
 use Rattle.utf8.specs.declared.Decoded.TheVariants.{Char, Bad, End}
@@ -138,7 +138,7 @@ module _ (s : List ℕ) (at : ℕ) where
       plain_char 0 1 (decode_at s at) refl q
 
   nul_byte : (v n : ℕ) → at < length s → decode_at s at ≡ Char v n → v ≡ 0 → get_or s at 0 ≡ 0
-  unfolding decode_at encode width if◌then◌else◌
+  unfolding decode_at encode width when◌then◌else◌
   nul_byte v n h q z =
       let c = encode_decode (drop at s) v n q in
       let w : n ≡ 1 = c.wide ∙ rw z in

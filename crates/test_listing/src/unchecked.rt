@@ -27,7 +27,8 @@ pub fn filled(
     room: usize,
 ) -> Outcome
     requires { room ≤ 64 }
-    ensures { result.answer ≡ count_of r (lent_before text.now types.now boundaries.now char_pos.now byte_pos.now cell_starts.now cell_lengths.now tag_bytes.now) room }
+    ensures { result.answer ≡ count_of r
+        (lent_before text.now types.now boundaries.now char_pos.now byte_pos.now cell_starts.now cell_lengths.now tag_bytes.now) room }
 {
     let mut list = [Token { start: 1, end: 0 }; 64];
     let answer = tokens::token_list(

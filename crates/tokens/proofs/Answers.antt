@@ -6,7 +6,7 @@ use mathlib.Core.List.{[], ◌∷◌}
 use native.Mathlib.Omega.{arith}
 use borrow.Author.Tests.{lt-ltb, le-ltb, not-true, not-false}
 use lib.ListN.{length}
-use Rattle.laws.specs.If.{if◌then◌else◌}
+use Rattle.laws.specs.If.{when◌then◌else◌}
 use Rattle.sentence.specs.declared.Refusal.{Refusal}
 use Rattle.sentence.specs.Sentence.{marks, count}
 use Rattle.sentence.specs.Writing.{tokens_from, Served, serves, done, next_token_of}
@@ -27,11 +27,11 @@ use Rattle.tokens.proofs.Held.{marks_held, bounded_held}
 -- a check that came out b, on buffers d
 module _ (r : Record) (d : Buffers) (b : Bool) (tested : b ≡ is_sheet r d) where
   pub next_13 : b ≡ false → (p : ℕ) → Refused (refusal 13 0) ≡ next_of r d p
-  unfolding next_of verdict if◌then◌else◌
+  unfolding next_of verdict when◌then◌else◌
   next_13 q p = rw (sym tested ∙ q)
 
   pub count_13 : b ≡ false → (room : ℕ) → RefusedNumber (refusal 13 0) ≡ count_of r d room
-  unfolding count_of list_order verdict if◌then◌else◌
+  unfolding count_of list_order verdict when◌then◌else◌
   count_13 q room = rw (sym tested ∙ q)
 
   -- from here on it is a sheet
@@ -39,7 +39,7 @@ module _ (r : Record) (d : Buffers) (b : Bool) (tested : b ≡ is_sheet r d) whe
   is_bounded q = bounded_held (is_sheet_lem r d (sym tested ∙ q))
 
   pub next_served : b ≡ true → (p : ℕ) (a : Step) → a ≡ step_of (next_token_of (marks_in r.n d.boundaries_buf) r.n p) → Is a ≡ next_of r d p
-  unfolding next_of verdict if◌then◌else◌
+  unfolding next_of verdict when◌then◌else◌
   next_served q p a e =
       let h = is_sheet_lem r d (sym tested ∙ q) in
       let z = ap (λ ms. next_token_of ms r.n p) (marks_held h) ∙ ap (λ n. next_token_of (marks (spell r d)) n p) (n_held h) in
@@ -49,13 +49,13 @@ module _ (r : Record) (d : Buffers) (b : Bool) (tested : b ≡ is_sheet r d) whe
   counted q k e = rw (marks_held (is_sheet_lem r d (sym tested ∙ q))) at e
 
   pub count_12 : b ≡ true → (room k : ℕ) {u : Refusal} → u ≡ refusal 12 k → k ≡ length (tokens_from (marks_in r.n d.boundaries_buf) 0) → room < k → RefusedNumber u ≡ count_of r d room
-  unfolding count_of list_order verdict if◌then◌else◌
+  unfolding count_of list_order verdict when◌then◌else◌
   count_12 q room k i e l =
       let c = counted q k e in
       rw (sym tested ∙ q, sym c, lt-ltb room k l) (ap RefusedNumber i)
 
   pub count_served : b ≡ true → (room k : ℕ) → k ≡ length (tokens_from (marks_in r.n d.boundaries_buf) 0) → k ≤ room → IsNumber k ≡ count_of r d room
-  unfolding count_of list_order verdict if◌then◌else◌
+  unfolding count_of list_order verdict when◌then◌else◌
   count_served q room k e l =
       let c = counted q k e in
       rw (sym tested ∙ q, sym c, le-ltb room k l)

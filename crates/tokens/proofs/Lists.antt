@@ -7,7 +7,7 @@ use native.Mathlib.Omega.{arith}
 use lib.Dec.{ltb}
 use borrow.Author.Tests.{ltb-false}
 use lib.ListN.{length, set, length-map}
-use Rattle.laws.specs.If.{if◌then◌else◌}
+use Rattle.laws.specs.If.{when◌then◌else◌}
 use Rattle.laws.specs.Put.{over, Filling, fill_start, fill_more, fill_keep, fill_done}
 use Rattle.sentence.specs.Writing.{token, tokens_from, Served, serves, done, next_token_of}
 use Rattle.sentence.specs.Refusals.{verdict}
@@ -72,7 +72,7 @@ module _ (r : Record) (d : Buffers) (l : List Span) where
   as_held e = ap (λ ms. length (tokens_from ms 0)) (marks_held (is_sheet_lem r d e))
 
   pub fills : Fills r d l (filled_of (count_of r d (length l)))
-  unfolding count_of list_order verdict if◌then◌else◌
+  unfolding count_of list_order verdict when◌then◌else◌
   fills = on (is_sheet r d) (ltb (length l) (length (tokens_of r d))) refl refl
     where
       none : Fills r d l 0
@@ -89,7 +89,7 @@ module _ (r : Record) (d : Buffers) (l : List Span) where
 
   -- once so many records are filled, the list is the one promised
   pub listed : (i p : ℕ) (m : List Span) → Partway r.n d.boundaries_buf l i p m → i ≡ filled_of (count_of r d (length l)) → Listed r d l (count_of r d (length l)) m
-  unfolding count_of list_order verdict if◌then◌else◌
+  unfolding count_of list_order verdict when◌then◌else◌
   listed i p m w q = record { answer_is = refl; list_is = on (is_sheet r d) (ltb (length l) (length (tokens_of r d))) refl refl }
     where
       on : (a b : Bool) → is_sheet r d ≡ a → ltb (length l) (length (tokens_of r d)) ≡ b → m ≡ verdict (λ e. l) (list_order r d (length l)) (over (map span_of (tokens_of r d)) l)

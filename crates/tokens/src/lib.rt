@@ -75,7 +75,8 @@ fn needed(
     tag_bytes: &[u8],
     room: usize,
 ) -> Number
-    ensures { result ≡ count_of r (lent_before text.now types.now boundaries.now char_pos.now byte_pos.now cell_starts.now cell_lengths.now tag_bytes.now) room }
+    ensures { result ≡ count_of r (lent_before text.now types.now boundaries.now char_pos.now byte_pos.now cell_starts.now cell_lengths.now tag_bytes.now)
+        room }
 {
     if !sheet::check(
         r,

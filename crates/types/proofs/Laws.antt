@@ -9,7 +9,7 @@ use lib.Dec.{T, leb, ltb, eqb, eqb→eq, leb→le, ltb→lt}
 use lib.ListN.{length, get_or}
 use lib.Seq.{ext_get_or}
 use borrow.Author.Tests.{le-leb, lt-leb, lt-ltb, le-ltb, ltb-true, ltb-false, eqb-true}
-use Rattle.laws.specs.If.{if◌then◌else◌, if_true, if_false}
+use Rattle.laws.specs.If.{when◌then◌else◌, if_true, if_false}
 use Rattle.types.specs.declared.ranges.Row.{Row}
 use Rattle.types.specs.TypeOf.{find, ranges, type_of}
 use Rattle.types.specs.Blocks.{mixed, place, uniform, block_is, entry, entry_is, every, tested, Right}
@@ -19,8 +19,8 @@ both : (a b : Bool) → T (a && b) → T a × T b
 both true b t = (tt, t)
 both false b t = absurd t
 
-either : {C : Type 0} (x a b : Bool) → T (if x then a else b) → (x ≡ true → T a → C) → (x ≡ false → T b → C) → C
-unfolding if◌then◌else◌
+either : {C : Type 0} (x a b : Bool) → T (when x then a else b) → (x ≡ true → T a → C) → (x ≡ false → T b → C) → C
+unfolding when◌then◌else◌
 either true a b t f g = f refl t
 either false a b t f g = g refl t
 
@@ -73,21 +73,21 @@ uniformly (r ∷ rs) lo hi t c u g h =
 
 -- numbers that are no characters have type 6
 pub surrogates : (c : ℕ) → 0xD800 ≤ c → c ≤ 0xDFFF → type_of c ≡ 6
-unfolding type_of ranges uniform if◌then◌else◌
+unfolding type_of ranges uniform when◌then◌else◌
 surrogates c g h = uniformly ranges 0xD800 0xDFFF 6 c tt g h
 
 pub past_all : (c : ℕ) → 0x110000 ≤ c → c ≤ 0xFFFFFFFF → type_of c ≡ 6
-unfolding type_of ranges uniform if◌then◌else◌
+unfolding type_of ranges uniform when◌then◌else◌
 past_all c g h = uniformly ranges 0x110000 0xFFFFFFFF 6 c tt g h
 
 -- ---- what passes the test
 placed : (x : ℕ) (ys : List ℕ) → place x ys < length ys → get_or ys (place x ys) 0 ≡ x
-unfolding place if◌then◌else◌
+unfolding place when◌then◌else◌
 placed x [] h = absurd (not-suc-le-zero h)
 placed x (y ∷ ys) h = on (eqb x y) refl h (placed x ys)
   where
-    on : (b : Bool) → eqb x y ≡ b → (if b then 0 else suc (place x ys)) < suc (length ys)
-        → (place x ys < length ys → get_or ys (place x ys) 0 ≡ x) → get_or (y ∷ ys) (if b then 0 else suc (place x ys)) 0 ≡ x
+    on : (b : Bool) → eqb x y ≡ b → (when b then 0 else suc (place x ys)) < suc (length ys)
+        → (place x ys < length ys → get_or ys (place x ys) 0 ≡ x) → get_or (y ∷ ys) (when b then 0 else suc (place x ys)) 0 ≡ x
     on true e g more = sym (eqb-true x y e)
     on false e g more = more (le_of_suc-le-suc g)
 

@@ -10,7 +10,7 @@ use borrow.Author.Tests.{le-leb, lt-leb, leb-true, leb-false}
 use lib.Dec.{leb}
 use lib.ListN.{length, get_or, take, drop, length-append, length-take, length-drop, get_or-eq_default, take-append-drop}
 use lib.Seq.{take-suc, take-add, take_all, take_at, take-take, drop_at, length-take-le}
-use Rattle.laws.specs.If.{if◌then◌else◌, if_both, if_cases, if_map}
+use Rattle.laws.specs.If.{when◌then◌else◌, if_both, if_cases, if_map}
 use Rattle.laws.specs.All.{All}
 use Rattle.laws.proofs.Facts.{reads, or_is, untrue}
 use Rattle.laws.proofs.Sized.{by_size}
@@ -129,15 +129,15 @@ bits : (x t v : ℕ) → x ≡ v / 64 → t ≡ 0x80 + v % 64 → x * 64 + t % 6
 bits x t v e f = omega arith
 
 pub one_decoded : (a b c d : ℕ) → utf8_1 a ≡ true → char_of a b c d ≡ Char a 1
-unfolding char_of if◌then◌else◌
+unfolding char_of when◌then◌else◌
 one_decoded a b c d e = rw e
 
 two_decoded : (a b c d v : ℕ) → Two a b v → char_of a b c d ≡ Char v 2
-unfolding char_of if◌then◌else◌
+unfolding char_of when◌then◌else◌
 two_decoded a b c d v t = rw (lt-leb a 0x7F (omega arith), two_out a b v t, bits (a % 32) b v (omega arith) t.last)
 
 three_decoded : (a b c d v : ℕ) → Three a b c v → char_of a b c d ≡ Char v 3
-unfolding char_of if◌then◌else◌
+unfolding char_of when◌then◌else◌
 three_decoded a b c d v t =
     rw (
       lt-leb a 0x7F (omega arith),
@@ -152,7 +152,7 @@ pub three_told : (a b c d : ℕ) → utf8_3 a b c ≡ true → char_of a b c d �
 three_told a b c d h = three_decoded a b c d _ (three_in a b c _ refl h)
 
 four_decoded : (a b c d v : ℕ) → Four a b c d v → char_of a b c d ≡ Char v 4
-unfolding char_of if◌then◌else◌
+unfolding char_of when◌then◌else◌
 four_decoded a b c d v t =
     rw (
       lt-leb a 0x7F (omega arith),
@@ -189,20 +189,20 @@ coded : (s bs : List ℕ) (v : ℕ) → take (length bs) s ≡ bs → encode v �
 coded s bs v e f g = record { bytes = e ∙ sym f; wide = sym (ap length f) ∙ length_encode v; is_scalar = g }
 
 pub one_encoded : (v : ℕ) → leb v 0x7F ≡ true → encode v ≡ v ∷ []
-unfolding encode if◌then◌else◌
+unfolding encode when◌then◌else◌
 one_encoded v e = rw e
 
 two_encoded : (a b v : ℕ) → Two a b v → encode v ≡ a ∷ b ∷ []
-unfolding encode if◌then◌else◌
+unfolding encode when◌then◌else◌
 two_encoded a b v t = rw (lt-leb v 0x7F (omega arith), le-leb v 0x7FF t.to, t.lead, t.last)
 
 three_encoded : (a b c v : ℕ) → Three a b c v → encode v ≡ a ∷ b ∷ c ∷ []
-unfolding encode if◌then◌else◌
+unfolding encode when◌then◌else◌
 three_encoded a b c v t =
     rw (lt-leb v 0x7F (omega arith), lt-leb v 0x7FF t.from, le-leb v 0xFFFF t.to, t.lead, t.next, t.last)
 
 four_encoded : (a b c d v : ℕ) → Four a b c d v → encode v ≡ a ∷ b ∷ c ∷ d ∷ []
-unfolding encode if◌then◌else◌
+unfolding encode when◌then◌else◌
 four_encoded a b c d v t =
     rw (lt-leb v 0x7F (omega arith), lt-leb v 0x7FF (omega arith), lt-leb v 0xFFFF t.from, t.lead, t.next, t.third, t.last)
 

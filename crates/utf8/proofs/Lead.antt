@@ -7,7 +7,7 @@ use native.Mathlib.Omega.{arith}
 use native.Mathlib.Decide.{dec_le}
 use borrow.Author.Tests.{le-leb, lt-leb}
 use lib.ListN.{length, get_or}
-use Rattle.laws.specs.If.{if◌then◌else◌}
+use Rattle.laws.specs.If.{when◌then◌else◌}
 use Rattle.laws.proofs.Facts.{reads, untrue}
 use Rattle.utf8.specs.declared.Decoded.TheVariants.{Char, Bad}
 use Rattle.utf8.specs.Utf8.{utf8_2, utf8_3, utf8_4, char_of, decode_at, is_char}
@@ -27,25 +27,25 @@ unfolding utf8_4
 four_lead a b c d = simp reads (omega arith)
 
 -- a test that leaves nothing else
-only : (t : Bool) (v n : ℕ) → is_char (if t then Char v n else Bad) ≡ true → (if t then Char v n else Bad) ≡ Char v n
-unfolding is_char if◌then◌else◌
+only : (t : Bool) (v n : ℕ) → is_char (when t then Char v n else Bad) ≡ true → (when t then Char v n else Bad) ≡ Char v n
+unfolding is_char when◌then◌else◌
 only true v n e = refl
 only false v n e = cc
 
 module _ (a b c d : ℕ) (h : is_char (char_of a b c d) ≡ true) where
   one : a ≤ 0x7F → char_of a b c d ≡ Char a 1
-  unfolding char_of if◌then◌else◌
+  unfolding char_of when◌then◌else◌
   one l = rw (le-leb a 0x7F l)
 
   two : 0x7F < a → a ≤ 0xDF → char_of a b c d ≡ Char (a % 32 * 64 + b % 64) 2
-  unfolding char_of is_char if◌then◌else◌
+  unfolding char_of is_char when◌then◌else◌
   two k l =
       let f = untrue (utf8_3 a b c) (λ e. omega (arith, three_lead a b c e)) in
       let g = untrue (utf8_4 a b c d) (λ e. omega (arith, four_lead a b c d e)) in
       rw (lt-leb a 0x7F k, f, g) (only (utf8_2 a b) _ _ (rw (lt-leb a 0x7F k, f, g) at h))
 
   three : 0xDF < a → a ≤ 0xEF → char_of a b c d ≡ Char ((a % 16 * 64 + b % 64) * 64 + c % 64) 3
-  unfolding char_of is_char if◌then◌else◌
+  unfolding char_of is_char when◌then◌else◌
   three k l =
       let e = lt-leb a 0x7F (omega arith) in
       let f = untrue (utf8_2 a b) (λ e. omega (arith, two_lead a b e)) in
@@ -53,7 +53,7 @@ module _ (a b c d : ℕ) (h : is_char (char_of a b c d) ≡ true) where
       rw (e, f, g) (only (utf8_3 a b c) _ _ (rw (e, f, g) at h))
 
   four : 0xEF < a → char_of a b c d ≡ Char (((a % 8 * 64 + b % 64) * 64 + c % 64) * 64 + d % 64) 4
-  unfolding char_of is_char if◌then◌else◌
+  unfolding char_of is_char when◌then◌else◌
   four k =
       let e = lt-leb a 0x7F (omega arith) in
       let f = untrue (utf8_2 a b) (λ e. omega (arith, two_lead a b e)) in

@@ -1,6 +1,7 @@
 -- UTF-8, from the grammar of RFC 3629, section 4, over a list of bytes.
-use Rattle.std.specs.Prelude.{ℕ, zero, suc, pred, ◌+◌, ◌*◌, ◌/◌, ◌%◌, List, [], ◌∷◌, ◌++◌, Bool, true, false, ◌&&◌, ◌||◌, length, get_or, take, drop, leb, ltb, eqb}
-use Rattle.laws.specs.If.{if◌then◌else◌}
+use Rattle.std.specs.Prelude.{ℕ, zero, suc, pred, ◌+◌, ◌*◌, ◌/◌, ◌%◌, List, [], ◌∷◌, ◌++◌}
+use Rattle.std.specs.Prelude.{Bool, true, false, ◌&&◌, ◌||◌, length, get_or, take, drop, leb, ltb, eqb}
+use Rattle.laws.specs.If.{when◌then◌else◌}
 use Rattle.utf8.specs.declared.Decoded.{Decoded}
 use Rattle.utf8.specs.declared.Decoded.TheVariants.{Char, Bad, End}
 use Rattle.utf8.specs.declared.unchecked.Encoded.{Encoded}
@@ -39,10 +40,10 @@ utf8_4 a b c d =
 -- what four bytes begin with; a byte past the end counts as 0, which is no UTF8-tail
 unfoldable pub char_of : ℕ → ℕ → ℕ → ℕ → Decoded
 char_of a b c d =
-    if utf8_1 a then Char a 1
-    else if utf8_2 a b then Char (a % 32 * 64 + b % 64) 2
-    else if utf8_3 a b c then Char ((a % 16 * 64 + b % 64) * 64 + c % 64) 3
-    else if utf8_4 a b c d then Char (((a % 8 * 64 + b % 64) * 64 + c % 64) * 64 + d % 64) 4
+    when utf8_1 a then Char a 1
+    else when utf8_2 a b then Char (a % 32 * 64 + b % 64) 2
+    else when utf8_3 a b c then Char ((a % 16 * 64 + b % 64) * 64 + c % 64) 3
+    else when utf8_4 a b c d then Char (((a % 8 * 64 + b % 64) * 64 + c % 64) * 64 + d % 64) 4
     else Bad
 
 -- the character that the bytes start with
@@ -96,14 +97,14 @@ scalar v = ltb v 0xD800 || within 0xE000 0x10FFFF v
 
 -- how many bytes a scalar value takes (the table of section 3)
 unfoldable pub width : ℕ → ℕ
-width v = if leb v 0x7F then 1 else if leb v 0x7FF then 2 else if leb v 0xFFFF then 3 else 4
+width v = when leb v 0x7F then 1 else when leb v 0x7FF then 2 else when leb v 0xFFFF then 3 else 4
 
 -- the bytes of a scalar value (the table of section 3)
 unfoldable pub encode : ℕ → List ℕ
 encode v =
-    if leb v 0x7F then v ∷ []
-    else if leb v 0x7FF then (0xC0 + v / 64) ∷ (0x80 + v % 64) ∷ []
-    else if leb v 0xFFFF then (0xE0 + v / 4096) ∷ (0x80 + v / 64 % 64) ∷ (0x80 + v % 64) ∷ []
+    when leb v 0x7F then v ∷ []
+    else when leb v 0x7FF then (0xC0 + v / 64) ∷ (0x80 + v % 64) ∷ []
+    else when leb v 0xFFFF then (0xE0 + v / 4096) ∷ (0x80 + v / 64 % 64) ∷ (0x80 + v % 64) ∷ []
     else (0xF0 + v / 262144) ∷ (0x80 + v / 4096 % 64) ∷ (0x80 + v / 64 % 64) ∷ (0x80 + v % 64) ∷ []
 
 -- the bytes of a text

@@ -7,7 +7,7 @@ use native.Mathlib.Omega.{arith}
 use borrow.Author.Tests.{lt-ltb, le-ltb, ltb-false, not-false}
 use lib.ListN.{length, take}
 use lib.Seq.{take_at}
-use Rattle.laws.specs.If.{if◌then◌else◌}
+use Rattle.laws.specs.If.{when◌then◌else◌}
 use Rattle.laws.specs.Put.{over}
 use Rattle.sentence.specs.Refusals.{refusal, Check, verdict}
 use Rattle.sentence.specs.declared.Refusal.{Refusal}
@@ -26,25 +26,25 @@ use Rattle.write.specs.Answers.{Puts, line_order, PutsLine}
 -- ---- the answers: g is what the check answered
 module _ (r : Record) (d : Buffers) (outside : Bool) (first : ℕ) (w out : List ℕ) (g : Bool) (e : g ≡ is_sheet r d) where
   pub put_13 : {a : Number} → not g ≡ true → a ≡ Refused (refusal 13 0) → PutsLine r d outside first w out a out
-  unfolding line_order verdict if◌then◌else◌
+  unfolding line_order verdict when◌then◌else◌
   put_13 h q = record { answer_is = rw (← e, h) q; out_is = rw (← e, h) }
 
   module _ (h : not g ≡ false) where
     pub put-14 : {a : Number} → outside ≡ true → a ≡ Refused (refusal 14 first) → PutsLine r d outside first w out a out
-    unfolding line_order verdict if◌then◌else◌
+    unfolding line_order verdict when◌then◌else◌
     put-14 o q = record { answer_is = rw (← e, h, o) q; out_is = rw (← e, h, o) }
 
     -- n is the length that is lacking
     module _ (o : outside ≡ false) (n : ℕ) (m : n ≡ short_of (length out) (length w)) where
       pub put-12 : {a : Number} → 0 < n → a ≡ Refused (refusal 12 n) → PutsLine r d outside first w out a out
-      unfolding line_order verdict if◌then◌else◌
+      unfolding line_order verdict when◌then◌else◌
       put-12 l q =
           let k = short_some (length out) (length w) m l in
           let t = lt-ltb (length out) (length w) k.1 in
           record { answer_is = rw (← e, h, o, t, ← k.0) q; out_is = rw (← e, h, o, t) }
 
       pub put_line : {a : ℕ} {out' : List ℕ} → n ≤ 0 → Lined w out out' a → PutsLine r d outside first w out (Is a) out'
-      unfolding line_order verdict if◌then◌else◌
+      unfolding line_order verdict when◌then◌else◌
       put_line l v =
           let t = le-ltb (length out) (length w) (short_none (length out) (length w) m l) in
           record { answer_is = rw (← e, h, o, t) (ap Is v.length_is); out_is = rw (← e, h, o, t) v.out_is }
@@ -63,7 +63,7 @@ pub record Took (r : Record) (d : Buffers) (w out : List ℕ) (n : ℕ) (out' : 
 
 module _ (r : Record) (d : Buffers) (outside : Bool) (first : ℕ) {w out : List ℕ} where
   pub took : {out' : List ℕ} {a : Number} {n : ℕ} → PutsLine r d outside first w out a out' → a ≡ Is n → Took r d w out n out'
-  unfolding line_order verdict if◌then◌else◌
+  unfolding line_order verdict when◌then◌else◌
   took {n = n} p e =
       let k = passed Refused (Is n) (λ x z. apart x z) (line_order r d outside first w (length out)) (Is (length w)) (sym p.answer_is ∙ e) in
       let l : length w ≡ n = cc k.1 in
@@ -83,7 +83,7 @@ module _ (r : Record) (d : Buffers) (outside : Bool) (first : ℕ) {w out : List
 
   -- given room, a line of a sheet is put
   pub serves : Sheet r d → outside ≡ false → length w ≤ length out → PutsLine r d outside first w out (Is (length w)) (over w out)
-  unfolding line_order verdict if◌then◌else◌
+  unfolding line_order verdict when◌then◌else◌
   serves h o l =
       let i = holds_is r d (spell r d) h in
       let z = le-ltb (length out) (length w) l in
@@ -91,7 +91,7 @@ module _ (r : Record) (d : Buffers) (outside : Bool) (first : ℕ) {w out : List
 
 -- where no number is out of range the first does not show
 pub first_unseen : (r : Record) (d : Buffers) (b c : ℕ) {w out out' : List ℕ} {a : Number} → PutsLine r d false b w out a out' → PutsLine r d false c w out a out'
-unfolding line_order verdict if◌then◌else◌
+unfolding line_order verdict when◌then◌else◌
 first_unseen r d b c p = record { answer_is = p.answer_is; out_is = p.out_is }
 
 -- ---- two sheets of which the same line is put, by numbers that are both out of range or both not

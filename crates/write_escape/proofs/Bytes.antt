@@ -7,7 +7,7 @@ use native.Mathlib.Omega.{arith}
 use borrow.Author.Tests.{ne_eqb}
 use lib.ListN.{length, get_or, set, take, drop, replicate}
 use Rattle.laws.specs.Put.{left_step, left_none}
-use Rattle.laws.specs.If.{if◌then◌else◌}
+use Rattle.laws.specs.If.{when◌then◌else◌}
 use Rattle.sentence.specs.Sentence.{none}
 use Rattle.sentence.specs.Reading.{Kind, mark, slash, back, plain, kind}
 use Rattle.sentence.specs.declared.Form.{Form}
@@ -31,34 +31,34 @@ as_plain plain b e = refl
 
 -- what both forms escape
 pub meant_space : (p : Bool) (b : ℕ) → b ≡ 32 → true ≡ meant (kind (in_form p) b)
-unfolding kind meant if◌then◌else◌
+unfolding kind meant when◌then◌else◌
 meant_space true b e = rw e
 meant_space false b e = rw e
 
 pub meant_slash : (p : Bool) (b : ℕ) → b ≡ 47 → true ≡ meant (kind (in_form p) b)
-unfolding kind meant if◌then◌else◌
+unfolding kind meant when◌then◌else◌
 meant_slash true b e = rw e
 meant_slash false b e = rw e
 
 pub meant_back : (p : Bool) (b : ℕ) → b ≡ 92 → true ≡ meant (kind (in_form p) b)
-unfolding kind meant if◌then◌else◌
+unfolding kind meant when◌then◌else◌
 meant_back true b e = rw e
 meant_back false b e = rw e
 
 -- what only the partial form escapes
 pub meant_dash : (p : Bool) (b : ℕ) → b ≡ 45 → p ≡ meant (kind (in_form p) b)
-unfolding kind meant if◌then◌else◌
+unfolding kind meant when◌then◌else◌
 meant_dash true b e = rw e
 meant_dash false b e = rw e
 
 pub meant_bar : (p : Bool) (b : ℕ) → b ≡ 124 → p ≡ meant (kind (in_form p) b)
-unfolding kind meant if◌then◌else◌
+unfolding kind meant when◌then◌else◌
 meant_bar true b e = rw e
 meant_bar false b e = rw e
 
 -- and nothing else
 pub meant_none : (p : Bool) (b : ℕ) → (b ≡ 32 → ⊥) → (b ≡ 47 → ⊥) → (b ≡ 92 → ⊥) → (b ≡ 45 → ⊥) → (b ≡ 124 → ⊥) → false ≡ meant (kind (in_form p) b)
-unfolding kind meant if◌then◌else◌
+unfolding kind meant when◌then◌else◌
 meant_none true b u v w x y = rw (ne_eqb b 32 u, ne_eqb b 45 x, ne_eqb b 124 y, ne_eqb b 47 v, ne_eqb b 92 w)
 meant_none false b u v w x y = rw (ne_eqb b 32 u, ne_eqb b 47 v, ne_eqb b 92 w)
 

@@ -7,7 +7,7 @@ use native.Mathlib.Omega.{arith}
 use borrow.Author.Tests.{ne_eqb, leb-false}
 use lib.Dec.{leb, eqb}
 use lib.ListN.{length, replicate, length-map}
-use Rattle.laws.specs.If.{if◌then◌else◌, if_false, if_cases}
+use Rattle.laws.specs.If.{when◌then◌else◌, if_false, if_cases}
 use Rattle.laws.specs.All.{All}
 use Rattle.utf8.specs.Utf8.{encode, encodes}
 use Rattle.utf8.proofs.Codec.{encodes_append, one_encoded}
@@ -23,7 +23,7 @@ not_key : (c k : ℕ) → 128 ≤ c → suc k ≤ 128 → eqb c k ≡ false
 not_key c k h l = ne_eqb c k (λ e. omega arith)
 
 high_plain : (f : Form) (c : ℕ) → 128 ≤ c → kind f c ≡ plain
-unfolding kind if◌then◌else◌
+unfolding kind when◌then◌else◌
 high_plain raw c h = refl
 high_plain tokenized c h = rw (not_key c 32 h (omega arith), not_key c 47 h (omega arith), not_key c 92 h (omega arith))
 high_plain partial c h =

@@ -8,7 +8,7 @@ use native.Mathlib.Omega.{arith}
 use borrow.Author.Tests.{lt-ltb, le-ltb, ltb-true, ltb-false}
 use lib.Dec.{ltb}
 use lib.ListN.{length, replicate, length-append, length-replicate}
-use Rattle.laws.specs.If.{if◌then◌else◌}
+use Rattle.laws.specs.If.{when◌then◌else◌}
 use Rattle.utf8.specs.Utf8.{encodes}
 use Rattle.sentence.specs.Sentence.{Tag, Sentence, pad, row_bytes}
 use Rattle.sentence.specs.declared.Form.{Form}
@@ -61,19 +61,19 @@ row_most f n c r h l =
 -- ---- too little room: there is enough by the bound, or by the length, or there is not
 module _ (room n : ℕ) where
   pub short_most : (m : ℕ) → n ≤ m → m ≤ room → 0 ≡ short_of room n
-  unfolding short_of if◌then◌else◌
+  unfolding short_of when◌then◌else◌
   short_most m h k = rw (le-ltb room n (omega arith))
 
   pub short_enough : {k : ℕ} → k ≡ n → k ≤ room → 0 ≡ short_of room n
   short_enough {k} e h = short_most n (omega arith) (omega arith)
 
   pub short_needed : {k : ℕ} → k ≡ n → room < k → k ≡ short_of room n
-  unfolding short_of if◌then◌else◌
+  unfolding short_of when◌then◌else◌
   short_needed e h = rw (lt-ltb room n (omega arith)) e
 
   -- and what a caller has of the answer
   pub short_none : {k : ℕ} → k ≡ short_of room n → k ≤ 0 → n ≤ room
-  unfolding short_of if◌then◌else◌
+  unfolding short_of when◌then◌else◌
   short_none {k} e h = on (ltb room n) refl
     where
       on : (t : Bool) → ltb room n ≡ t → n ≤ room
@@ -81,7 +81,7 @@ module _ (room n : ℕ) where
       on false q = ltb-false room n q
 
   pub short_some : {k : ℕ} → k ≡ short_of room n → 0 < k → (k ≡ n) × (room < n)
-  unfolding short_of if◌then◌else◌
+  unfolding short_of when◌then◌else◌
   short_some {k} e h = on (ltb room n) refl
     where
       on : (t : Bool) → ltb room n ≡ t → (k ≡ n) × (room < n)

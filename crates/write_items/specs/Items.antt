@@ -1,6 +1,6 @@
 -- Slices of a buffer that are told by where they start and how long they are: the tags of tag bytes, and the rows of tags.
 use Rattle.std.specs.Prelude.{ℕ, zero, suc, ◌+◌, ◌-◌, ◌*◌, ◌≤◌, ◌<◌, ◌≡◌, List, [], ◌∷◌, ◌++◌, eqb, ltb, length, take, drop, get_or}
-use Rattle.laws.specs.If.{if◌then◌else◌}
+use Rattle.laws.specs.If.{when◌then◌else◌}
 use Rattle.sentence.specs.Sentence.{Tag, pad}
 use Rattle.sentence.specs.declared.Form.{Form}
 use Rattle.sentence.specs.declared.Form.TheVariants.{Tokenized as tokenized, Partial as partial}
@@ -19,7 +19,7 @@ cell_tags ss ls d k (suc n) = cell_tag ss ls d k ∷ cell_tags ss ls d (k + 1) n
 -- how many of the n cells from the k-th on there are up to the last one that has a length
 unfoldable pub used_at : List ℕ → ℕ → ℕ → ℕ
 used_at ls k zero = 0
-used_at ls k (suc n) = if eqb (get_or ls (k + n) 0) 0 then used_at ls k n else suc n
+used_at ls k (suc n) = when eqb (get_or ls (k + n) 0) 0 then used_at ls k n else suc n
 
 -- how many tags the i-th row lists, of rows that have m cells each
 abbrev pub count_at : List ℕ → ℕ → ℕ → ℕ
@@ -87,4 +87,4 @@ pub record Limited (r : Record) : Type 0 where
 
 -- the length needed where there is less room, and else 0
 unfoldable pub short_of : ℕ → ℕ → ℕ
-short_of room n = if ltb room n then n else 0
+short_of room n = when ltb room n then n else 0

@@ -9,7 +9,7 @@ use borrow.Author.Tests.{ltb-true, ltb-false}
 use lib.Dec.{eqb, ltb}
 use lib.ListN.{length, take, drop, get_or, length-append}
 use lib.Seq.{slice_empty}
-use Rattle.laws.specs.If.{if◌then◌else◌, if_true, if_false}
+use Rattle.laws.specs.If.{when◌then◌else◌, if_true, if_false}
 use Rattle.utf8.specs.Utf8.{width, encodes, size}
 use Rattle.utf8.proofs.Codec.{length_encode, encodes_append}
 use Rattle.sentence.specs.Sentence.{Tag, Mark, none, word, unknown, Cells, final, cell, text_of, rows_of, text, row_bytes, tag_bytes, Row, CellsOf}
@@ -36,7 +36,7 @@ shown_most n c word r l h = row_most partial n c r l h.fits
 shown_most n c unknown r l h = rw h.is_cut (rw (pad_none r) at (row_most partial 0 c r (omega arith) h.fits))
 
 sign_wide : (m : Mark) → width (sign m) ≡ 1
-unfolding width sign if◌then◌else◌
+unfolding width sign when◌then◌else◌
 sign_wide none = refl
 sign_wide word = refl
 sign_wide unknown = refl
@@ -122,10 +122,10 @@ module _ (text ps ss ls ds : List ℕ) (m : ℕ) where
 
 -- ---- the length of each stretch
 module _ (n : ℕ) (text bs ps ss ls ds : List ℕ) (m : ℕ) where
-  slashed : (i : ℕ) → count_at ls m i ≤ n → count_at ls m i + ((if eqb (get_or bs i 0) 1 then n else 0) - count_at ls m i) ≡ (if eqb (get_or bs i 0) 1 then n else count_at ls m i)
+  slashed : (i : ℕ) → count_at ls m i ≤ n → count_at ls m i + ((when eqb (get_or bs i 0) 1 then n else 0) - count_at ls m i) ≡ (when eqb (get_or bs i 0) 1 then n else count_at ls m i)
   slashed i l = on (eqb (get_or bs i 0) 1) refl
     where
-      on : (v : Bool) → eqb (get_or bs i 0) 1 ≡ v → count_at ls m i + ((if v then n else 0) - count_at ls m i) ≡ (if v then n else count_at ls m i)
+      on : (v : Bool) → eqb (get_or bs i 0) 1 ≡ v → count_at ls m i + ((when v then n else 0) - count_at ls m i) ≡ (when v then n else count_at ls m i)
       on true q = rw (if_true true n 0 refl, if_true true n (count_at ls m i) refl) (omega arith)
       on false q = rw (if_false false n 0 refl, if_false false n (count_at ls m i) refl) (omega arith)
 
@@ -136,7 +136,7 @@ module _ (n : ℕ) (text bs ps ss ls ds : List ℕ) (m : ℕ) where
   stretch_sum (suc k) i t w f =
       let q : i + suc k ≡ i + 1 + k = omega arith in
       let h = stretch_sum k (i + 1) (rw q at t) (rw q at w) (record { few = λ j x y. f.few j (omega arith) (omega arith) }) in
-      let x = if eqb (get_or bs i 0) 1 then n else 0 in
+      let x = when eqb (get_or bs i 0) 1 then n else 0 in
       let c = char_sum x text ps ss ls ds m i (t.lies i (omega arith)) (w.lies i (omega arith)) in
       let g = span text ps ss ls ds m (i + suc k) t w i (i + 1) (omega arith) (omega arith) (omega arith) in
       let o = span text ps ss ls ds m (i + suc k) t w (i + 1) (i + 1 + k) (omega arith) (omega arith) (omega arith) in

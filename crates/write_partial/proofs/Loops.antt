@@ -9,7 +9,7 @@ use mir.Val.{Fits}
 use mir.Syntax.{w64}
 use lib.Dec.{eqb}
 use lib.ListN.{length, get_or, set, replicate, length-append, length-replicate}
-use Rattle.laws.specs.If.{if◌then◌else◌, if_true, if_false}
+use Rattle.laws.specs.If.{when◌then◌else◌, if_true, if_false}
 use Rattle.sentence.specs.Writing.{sign}
 use Rattle.sheet.specs.Layout.{mark_of}
 use Rattle.write_escape.specs.Wrote.{Wrote, wrote_long, Writing, write_start, write_byte, write_item, write_fits, write_done}
@@ -33,7 +33,7 @@ module _ {text bs ps ss ls ds : List ℕ} {m : ℕ} {n upto : ℕ} {out₀ : Lis
   pub stretch_reads : i < upto → i < length bs
   stretch_reads l = omega (arith, t.long)
 
-  module _ (l : i < upto) {w : ℕ} (q : w ≡ (if eqb (get_or bs i 0) 1 then n else 0)) where
+  module _ (l : i < upto) {w : ℕ} (q : w ≡ (when eqb (get_or bs i 0) 1 then n else 0)) where
     stretch_left : stretch_of text bs ps ss ls ds m n i (upto - i)
         ≡ char_line w text ps ss ls ds m i ++ (sign (mark_of (get_or bs i 0)) ∷ stretch_of text bs ps ss ls ds m n (i + 1) (upto - (i + 1)))
     unfolding stretch_of
@@ -126,7 +126,7 @@ module _ {bs ss ls ds : List ℕ} {m : ℕ} {n upto all sum i : ℕ} (t : Slashi
     pub slash-asks : Follow ss ls (i * m + m)
     slash-asks = (t.rows.lies i l).cells
 
-    left : slashes_of bs ls m n i (upto - i) ≡ (if eqb (get_or bs i 0) 1 then n else count_at ls m i) + slashes_of bs ls m n (i + 1) (upto - (i + 1))
+    left : slashes_of bs ls m n i (upto - i) ≡ (when eqb (get_or bs i 0) 1 then n else count_at ls m i) + slashes_of bs ls m n (i + 1) (upto - (i + 1))
     unfolding slashes_of
     left = let k : upto - i ≡ suc (upto - (i + 1)) = omega arith in rw k
 

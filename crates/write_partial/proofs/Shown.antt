@@ -6,7 +6,7 @@ use mathlib.Core.List.{List, [], ◌∷◌}
 use native.Mathlib.Nat.{add-zero, zero-add}
 use native.Mathlib.Omega.{arith}
 use lib.ListN.{length, drop, get_or, drop_of_length-le}
-use Rattle.laws.specs.If.{if◌then◌else◌, if_map, if_both}
+use Rattle.laws.specs.If.{when◌then◌else◌, if_map, if_both}
 use Rattle.laws.specs.Put.{over}
 use Rattle.sentence.specs.Sentence.{Tag, none, unknown, Cells, final, cell, Sentence, marks_of, rows_of, text, marks, rows, cut, Row}
 use Rattle.sentence.specs.declared.Form.TheVariants.{Partial as partial}
@@ -32,7 +32,7 @@ unfolding hidden rows_of
 rows_count b e i (final c r) = refl
 rows_count b e i (cell c r m u) = rw (rows_count b e (i + 1) u)
 
-mark_hidden : (b e i : ℕ) (u : Cells) (j : ℕ) → j < length (marks_of u) → get_or (marks_of (hidden b e i u)) j none ≡ (if touches b e (i + j) then unknown else get_or (marks_of u) j none)
+mark_hidden : (b e i : ℕ) (u : Cells) (j : ℕ) → j < length (marks_of u) → get_or (marks_of (hidden b e i u)) j none ≡ (when touches b e (i + j) then unknown else get_or (marks_of u) j none)
 unfolding hidden marks_of
 mark_hidden b e i (final c r) j h = absurd (omega arith)
 mark_hidden b e i (cell c r m u) zero h = rw add-zero
@@ -64,7 +64,7 @@ none_touch b e i l = rw (none_in b e i l, none_in b e (i + 1) l)
 -- ---- of a sheet
 -- the i-th row as it is shown
 abbrev pub row_in : ℕ → ℕ → Sentence → ℕ → List Tag
-row_in b e s i = if in_range b e i then [] else get_or (rows s) i []
+row_in b e s i = when in_range b e i then [] else get_or (rows s) i []
 
 module _ {r : Record} {d : Buffers} {s : Sentence} (h : Holds r d s) where
   -- nothing hidden, and all columns: the sentence itself
@@ -91,7 +91,7 @@ module _ {r : Record} {d : Buffers} {s : Sentence} (h : Holds r d s) where
     pub text-shown : (i : ℕ) → i < r.n → drop i (text (shown_of n b e s)) ≡ get_or (text s) i 0 ∷ drop (i + 1) (text (shown_of n b e s))
     text-shown i k = rw (text_hidden b e 0 s.cells) (text_step h i k)
 
-    pub mark_shown : (i : ℕ) → i < r.n - 1 → {m : ℕ} → m ≡ (if touches b e i then 2 else get_or d.boundaries_buf i 0)
+    pub mark_shown : (i : ℕ) → i < r.n - 1 → {m : ℕ} → m ≡ (when touches b e i then 2 else get_or d.boundaries_buf i 0)
         → drop i (marks (shown_of n b e s)) ≡ mark_of m ∷ drop (i + 1) (marks (shown_of n b e s))
     unfolding mark_of
     mark_shown i k {m} q =

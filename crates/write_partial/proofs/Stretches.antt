@@ -8,7 +8,7 @@ use native.Mathlib.Omega.{arith}
 use borrow.Author.Tests.{ne_eqb}
 use lib.Dec.{eqb}
 use lib.ListN.{length, drop, get_or, replicate}
-use Rattle.laws.specs.If.{if◌then◌else◌, if_true, if_false}
+use Rattle.laws.specs.If.{when◌then◌else◌, if_true, if_false}
 use Rattle.utf8.specs.Utf8.{encode, encodes}
 use Rattle.utf8.proofs.Codec.{encodes_append}
 use Rattle.sentence.specs.Sentence.{Tag, Mark, none, word, unknown, Cells, final, cell, Sentence, text_of, marks_of, rows_of, text, marks, rows, cut, pad}
@@ -49,14 +49,14 @@ pub pad_none : (row : List Tag) → pad 0 row ≡ row
 unfolding pad
 pad_none row = let z : 0 - length row ≡ 0 = omega arith in rw (z, append-nil)
 
-shown_pad : (n b : ℕ) (row : List Tag) → cut row ≡ row → shown n (mark_of b) row ≡ pad (if eqb b 1 then n else 0) row
-unfolding shown mark_of if◌then◌else◌
+shown_pad : (n b : ℕ) (row : List Tag) → cut row ≡ row → shown n (mark_of b) row ≡ pad (when eqb b 1 then n else 0) row
+unfolding shown mark_of when◌then◌else◌
 shown_pad n zero row e = e ∙ sym (pad_none row)
 shown_pad n (suc zero) row e = refl
 shown_pad n (suc (suc b)) row e = rw (ne_eqb (suc (suc b)) 1 (λ z. omega arith)) (e ∙ sym (pad_none row))
 
 encode_sign : (m : Mark) → encode (sign m) ≡ sign m ∷ []
-unfolding encode sign if◌then◌else◌
+unfolding encode sign when◌then◌else◌
 encode_sign none = refl
 encode_sign word = refl
 encode_sign unknown = refl
@@ -112,7 +112,7 @@ module _ {r : Record} {d : Buffers} {s : Sentence} (h : Holds r d s) (n b e : �
       text_is h i (i + 1) (omega arith) (omega arith) ∙ ap encodes t
 
   -- a character with a boundary of number m behind it, which says how many columns are written
-  left_step : (i : ℕ) → i + 1 < r.n → (m w : ℕ) → m ≡ (if touches b e i then 2 else get_or d.boundaries_buf i 0) → w ≡ (if eqb m 1 then n else 0)
+  left_step : (i : ℕ) → i + 1 < r.n → (m w : ℕ) → m ≡ (when touches b e i then 2 else get_or d.boundaries_buf i 0) → w ≡ (when eqb m 1 then n else 0)
       → left_from (shown_of n b e s) i
       ≡ (text_in d i ++ encodes (write_tags partial (pad w (row_in b e s i)))) ++ (sign (mark_of m) ∷ left_from (shown_of n b e s) (i + 1))
   unfolding left_from partial_from
@@ -143,10 +143,10 @@ module _ {r : Record} {d : Buffers} {s : Sentence} (h : Holds r d s) (n b e : �
   -- a character whose boundary does not touch the range
   left_open : (i : ℕ) → i + 1 < r.n → touches b e i ≡ false → in_range b e i ≡ false
       → left_from (shown_of n b e s) i
-      ≡ char_in d r.columns (if eqb (get_or d.boundaries_buf i 0) 1 then n else 0) i ++ (sign (mark_of (get_or d.boundaries_buf i 0)) ∷ left_from (shown_of n b e s) (i + 1))
+      ≡ char_in d r.columns (when eqb (get_or d.boundaries_buf i 0) 1 then n else 0) i ++ (sign (mark_of (get_or d.boundaries_buf i 0)) ∷ left_from (shown_of n b e s) (i + 1))
   left_open i l p q =
       let m = get_or d.boundaries_buf i 0 in
-      let w = if eqb m 1 then n else 0 in
+      let w = when eqb m 1 then n else 0 in
       left_step i l m w (sym (if_false (touches b e i) 2 m p)) refl ∙ rw (row_open i w (omega arith) q)
 
   -- one that is itself outside, and whose boundary touches the range
@@ -171,7 +171,7 @@ module _ {r : Record} {d : Buffers} {s : Sentence} (h : Holds r d s) (n b e : �
       let o = f i (omega arith) (omega arith) in
       left_open i (omega arith) o.0 o.1
       ∙ rw (left_stretch k (i + 1) (omega arith) (λ j x y. f j (omega arith) (omega arith)), q)
-      (sym (append_assoc (char_in d r.columns (if eqb (get_or d.boundaries_buf i 0) 1 then n else 0) i) (sign (mark_of (get_or d.boundaries_buf i 0)) ∷ stretch_in d r.columns n (i + 1) k) (left_from (shown_of n b e s) (i + 1 + k))))
+      (sym (append_assoc (char_in d r.columns (when eqb (get_or d.boundaries_buf i 0) 1 then n else 0) i) (sign (mark_of (get_or d.boundaries_buf i 0)) ∷ stretch_in d r.columns n (i + 1) k) (left_from (shown_of n b e s) (i + 1 + k))))
 
   left_hides : (k i : ℕ) → i + k < r.n → ((j : ℕ) → i ≤ j → j < i + k → in_range b e j ≡ true)
       → left_from (shown_of n b e s) i ≡ covered_in d i k ++ left_from (shown_of n b e s) (i + k)

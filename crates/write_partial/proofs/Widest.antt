@@ -5,7 +5,7 @@ use mathlib.Core.Bool.{false}
 use mathlib.Core.List.{List, [], ◌∷◌}
 use native.Mathlib.Omega.{arith}
 use lib.ListN.{length, drop, get_or}
-use Rattle.laws.specs.If.{if◌then◌else◌, if_false, if_map}
+use Rattle.laws.specs.If.{when◌then◌else◌, if_false, if_map}
 use Rattle.sentence.specs.Sentence.{Tag, Cells, final, cell, Sentence, rows_of, rows}
 use Rattle.sentence.specs.Withheld.{in_range, hidden, widest}
 use Rattle.sentence.proofs.Withheld.{widest_few, cells_hidden}
@@ -65,7 +65,7 @@ module _ {r : Record} {d : Buffers} {b e w i : ℕ} (t : Seeking r d b e w i) wh
   pub seek_asks : i < r.n → Follow d.cell_starts_buf d.cell_lengths_buf (i * r.columns + r.columns)
   seek_asks l = (row_lies t.sheet i l).cells
 
-  module _ (l : i < r.n) {k : ℕ} (c : k ≡ (if in_range b e i then 0 else count_at d.cell_lengths_buf r.columns i)) where
+  module _ (l : i < r.n) {k : ℕ} (c : k ≡ (when in_range b e i then 0 else count_at d.cell_lengths_buf r.columns i)) where
     counted : k ≡ length (row_in b e (spell r d) i)
     counted =
         c ∙ rw (count_is t.sheet i l, if_map length (in_range b e i) [] (get_or (rows (spell r d)) i []))

@@ -1,7 +1,7 @@
 -- The partial line of a sheet with a range of its characters hidden, and the stretches that it is made of.
 use Rattle.std.specs.Prelude.{ℕ, zero, suc, ◌+◌, ◌-◌, ◌≤◌, ◌<◌, List, [], ◌∷◌, ◌++◌, eqb, get_or, replicate}
 use Prim.Native.Char.{code as chr}
-use Rattle.laws.specs.If.{if◌then◌else◌}
+use Rattle.laws.specs.If.{when◌then◌else◌}
 use Rattle.sentence.specs.Sentence.{Sentence}
 use Rattle.sentence.specs.Writing.{sign}
 use Rattle.sentence.specs.Withheld.{hidden, widest}
@@ -36,7 +36,7 @@ pub record Narrow (ls : List ℕ) (m n b e : ℕ) : Type 0 where
 unfoldable pub stretch_of : List ℕ → List ℕ → List ℕ → List ℕ → List ℕ → List ℕ → ℕ → ℕ → ℕ → ℕ → List ℕ
 stretch_of text bs ps ss ls ds m n i zero = []
 stretch_of text bs ps ss ls ds m n i (suc k) =
-    char_line (if eqb (get_or bs i 0) 1 then n else 0) text ps ss ls ds m i ++ (sign (mark_of (get_or bs i 0)) ∷ stretch_of text bs ps ss ls ds m n (i + 1) k)
+    char_line (when eqb (get_or bs i 0) 1 then n else 0) text ps ss ls ds m i ++ (sign (mark_of (get_or bs i 0)) ∷ stretch_of text bs ps ss ls ds m n (i + 1) k)
 
 -- the k characters from the i-th on without a label
 unfoldable pub covered_of : List ℕ → List ℕ → ℕ → ℕ → List ℕ
@@ -59,4 +59,4 @@ bare_of text ps n i = text_at ps text i (i + 1) ++ replicate n (chr "/")
 -- the slashes of the k characters from the i-th on
 unfoldable pub slashes_of : List ℕ → List ℕ → ℕ → ℕ → ℕ → ℕ → ℕ
 slashes_of bs ls m n i zero = 0
-slashes_of bs ls m n i (suc k) = (if eqb (get_or bs i 0) 1 then n else count_at ls m i) + slashes_of bs ls m n (i + 1) k
+slashes_of bs ls m n i (suc k) = (when eqb (get_or bs i 0) 1 then n else count_at ls m i) + slashes_of bs ls m n (i + 1) k

@@ -1,6 +1,6 @@
 // Internal: each function assumes a checked sheet, or cells and positions that lie in their slices, and the writers room for what they write.
 ghost use Rattle.std.specs.Prelude.{◌+◌, ◌-◌, ◌*◌, ◌^◌, ◌≤◌, ◌<◌, ◌≡◌, eqb, length};
-ghost use Rattle.laws.specs.If.{if◌then◌else◌};
+ghost use Rattle.laws.specs.If.{when◌then◌else◌};
 ghost use Rattle.sentence.specs.declared.Form.TheVariants.{Partial as partial};
 ghost use Rattle.sentence.specs.Writing.{sign, written};
 ghost use Rattle.sentence.specs.Withheld.{in_range, hidden, widest};
@@ -30,7 +30,7 @@ fn sign_of(m: u8) -> u8
 
 // How many columns are written before a boundary: all before a word boundary, else those of the row.
 fn columns_before(m: u8, columns: usize) -> usize
-    ensures { result ≡ (if eqb m 1 then columns else 0) }
+    ensures { result ≡ (when eqb m 1 then columns else 0) }
 {
     if m == 1 {
         return columns;
@@ -58,7 +58,7 @@ fn tags_shown(
     i: usize,
 ) -> usize
     requires { Follow cell_starts.now cell_lengths.now (i * stride + stride) }
-    ensures { result ≡ (if in_range start end i then 0 else count_at cell_lengths.now stride i) }
+    ensures { result ≡ (when in_range start end i then 0 else count_at cell_lengths.now stride i) }
 {
     if is_hidden(start, end, i) {
         return 0;
@@ -82,7 +82,8 @@ pub fn columns_shown(
 ) -> usize
     requires { Sheet r (lent text.now types.now boundaries.now char_pos.now byte_pos.now cell_starts.now cell_lengths.now tag_bytes.now) }
     ensures { result ≡ widest
-        (hidden start end 0 (spell r (lent_before text.now types.now boundaries.now char_pos.now byte_pos.now cell_starts.now cell_lengths.now tag_bytes.now)).cells) }
+        (hidden start end 0 (spell r
+        (lent_before text.now types.now boundaries.now char_pos.now byte_pos.now cell_starts.now cell_lengths.now tag_bytes.now)).cells) }
 {
     let mut columns = 0;
     let mut i = 0;
@@ -229,7 +230,8 @@ fn shown_len(
     requires { Sheet r (lent text.now types.now boundaries.now char_pos.now byte_pos.now cell_starts.now cell_lengths.now tag_bytes.now)
         × Asked r (lent text.now types.now boundaries.now char_pos.now byte_pos.now cell_starts.now cell_lengths.now tag_bytes.now) columns start end }
     ensures { result ≡ length (written partial
-        (shown_of columns start end (spell r (lent_before text.now types.now boundaries.now char_pos.now byte_pos.now cell_starts.now cell_lengths.now tag_bytes.now)))) }
+        (shown_of columns start end
+        (spell r (lent_before text.now types.now boundaries.now char_pos.now byte_pos.now cell_starts.now cell_lengths.now tag_bytes.now)))) }
 {
     let last = r.n - 1;
     if start == end {
@@ -538,10 +540,12 @@ pub fn shown_into(
         × (start ≤ end)
         × (end ≤ r.n)
         × (length (written partial
-        (shown_of columns start end (spell r (lent text.now types.now boundaries.now char_pos.now byte_pos.now cell_starts.now cell_lengths.now tag_bytes.now))))
+        (shown_of columns start end
+        (spell r (lent text.now types.now boundaries.now char_pos.now byte_pos.now cell_starts.now cell_lengths.now tag_bytes.now))))
         ≤ length out.old) }
     ensures { Lined (written partial
-        (shown_of columns start end (spell r (lent_before text.now types.now boundaries.now char_pos.now byte_pos.now cell_starts.now cell_lengths.now tag_bytes.now))))
+        (shown_of columns start end
+        (spell r (lent_before text.now types.now boundaries.now char_pos.now byte_pos.now cell_starts.now cell_lengths.now tag_bytes.now))))
         out.old out.new result }
 {
     let last = r.n - 1;
@@ -609,7 +613,8 @@ pub fn partial_short(
 ) -> usize
     requires { Sheet r (lent text.now types.now boundaries.now char_pos.now byte_pos.now cell_starts.now cell_lengths.now tag_bytes.now) }
     ensures { result ≡ short_of room
-        (length (written partial (spell r (lent_before text.now types.now boundaries.now char_pos.now byte_pos.now cell_starts.now cell_lengths.now tag_bytes.now)))) }
+        (length (written partial (spell r
+        (lent_before text.now types.now boundaries.now char_pos.now byte_pos.now cell_starts.now cell_lengths.now tag_bytes.now)))) }
 {
     shown_short(
         r,
@@ -644,7 +649,8 @@ pub fn partial_into(
     requires { Sheet r (lent text.now types.now boundaries.now char_pos.now byte_pos.now cell_starts.now cell_lengths.now tag_bytes.now)
         × (length (written partial (spell r (lent text.now types.now boundaries.now char_pos.now byte_pos.now cell_starts.now cell_lengths.now tag_bytes.now)))
         ≤ length out.old) }
-    ensures { Lined (written partial (spell r (lent_before text.now types.now boundaries.now char_pos.now byte_pos.now cell_starts.now cell_lengths.now tag_bytes.now)))
+    ensures { Lined (written partial
+        (spell r (lent_before text.now types.now boundaries.now char_pos.now byte_pos.now cell_starts.now cell_lengths.now tag_bytes.now)))
         out.old out.new result }
 {
     shown_into(

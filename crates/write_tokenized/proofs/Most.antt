@@ -9,7 +9,7 @@ use lib.ListN.{length, take, get_or, length-append}
 use lib.Seq.{take-add}
 use Rattle.utf8.specs.Utf8.{encode, encodes, size}
 use Rattle.utf8.proofs.Codec.{encodes_append, length_encodes, size_append}
-use Rattle.laws.specs.If.{if◌then◌else◌}
+use Rattle.laws.specs.If.{when◌then◌else◌}
 use Rattle.sentence.specs.Sentence.{Tag, Sentence, text, marks, rows, pad, row_bytes, tag_bytes, Row}
 use Rattle.sentence.specs.declared.Form.TheVariants.{Tokenized as tokenized}
 use Rattle.sentence.specs.Writing.{Token, token, surface, escape, write_tags, write_token, joined, line, written, serves, next_token_of}
@@ -36,7 +36,7 @@ spaced_joined [] = refl
 spaced_joined (w ∷ ws) = sym (joined_spaced w ws)
 
 pub encodes_gap : (b : Bool) → encodes (gap b) ≡ gap b
-unfolding encodes encode gap if◌then◌else◌
+unfolding encodes encode gap when◌then◌else◌
 encodes_gap true = refl
 encodes_gap false = refl
 

@@ -94,7 +94,8 @@ pub fn tokenized_short(
 ) -> usize
     requires { Sheet r (lent text.now types.now boundaries.now char_pos.now byte_pos.now cell_starts.now cell_lengths.now tag_bytes.now) }
     ensures { result ≡ short_of room
-        (length (written tokenized (spell r (lent_before text.now types.now boundaries.now char_pos.now byte_pos.now cell_starts.now cell_lengths.now tag_bytes.now)))) }
+        (length (written tokenized
+        (spell r (lent_before text.now types.now boundaries.now char_pos.now byte_pos.now cell_starts.now cell_lengths.now tag_bytes.now)))) }
 {
     if most(r) <= room {
         return 0;
@@ -130,9 +131,11 @@ pub fn tokenized_into(
     out: &mut [u8],
 ) -> usize
     requires { Sheet r (lent text.now types.now boundaries.now char_pos.now byte_pos.now cell_starts.now cell_lengths.now tag_bytes.now)
-        × (length (written tokenized (spell r (lent text.now types.now boundaries.now char_pos.now byte_pos.now cell_starts.now cell_lengths.now tag_bytes.now)))
+        × (length (written tokenized
+        (spell r (lent text.now types.now boundaries.now char_pos.now byte_pos.now cell_starts.now cell_lengths.now tag_bytes.now)))
         ≤ length out.old) }
-    ensures { Lined (written tokenized (spell r (lent_before text.now types.now boundaries.now char_pos.now byte_pos.now cell_starts.now cell_lengths.now tag_bytes.now)))
+    ensures { Lined (written tokenized
+        (spell r (lent_before text.now types.now boundaries.now char_pos.now byte_pos.now cell_starts.now cell_lengths.now tag_bytes.now)))
         out.old out.new result }
 {
     let mut n = 0;

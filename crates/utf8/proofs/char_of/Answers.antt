@@ -1,6 +1,6 @@
 -- `utf8::char_of` meets its contract.
 use borrow.Author.Tests.{lt-leb}
-use Rattle.laws.specs.If.{if◌then◌else◌}
+use Rattle.laws.specs.If.{when◌then◌else◌}
 use Rattle.utf8.specs.Utf8.{char_of}
 use Rattle.laws.proofs.Tests.{tests, of_call}
 use borrow.Author.Rules.{rules}
@@ -19,7 +19,7 @@ unfolding char_of
 returns-then-is_three c = search tests
 
 pub returns-then-is_four : goal.returns-then-is_four
-unfolding char_of if◌then◌else◌
+unfolding char_of when◌then◌else◌
 returns-then-is_four c =
     simp (
       of_call _ _ _ c.is_four.ensures c.if-is_four.true,

@@ -9,7 +9,7 @@ use lib.Dec.{leb, lit≤}
 use lib.Seq.{drop-cons}
 use lib.ListN.{length, drop, get_or, drop_of_length-le}
 use borrow.Author.Rules.{rules}
-use Rattle.laws.specs.If.{if◌then◌else◌, if_true, if_false}
+use Rattle.laws.specs.If.{when◌then◌else◌, if_true, if_false}
 use Rattle.types.specs.TypeOf.{row, find, ranges, type_of}
 use Rattle.types.specs.declared.ranges.Row.{Row}
 use Rattle.types.proofs.ranges.scan.Given as goal
