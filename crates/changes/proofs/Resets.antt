@@ -9,7 +9,7 @@ use lib.Dec.{ltb}
 use lib.ListN.{length}
 use Rattle.laws.specs.If.{when◌then◌else◌}
 use Rattle.laws.proofs.Facts.{neither}
-use Rattle.sentence.specs.Sentence.{Sentence, count}
+use Rattle.sentence.specs.Sentence.{count}
 use Rattle.sentence.specs.Writing.{reset_tags_of}
 use Rattle.sentence.specs.Refusals.{refusal, verdict}
 use Rattle.sheet.specs.declared.Record.{Record}

@@ -1,5 +1,5 @@
 -- Worked refusals of `reset_tags` for T `ab`: 14 before 11, whatever the room, and 11 where there are three cells for two columns.
-use Rattle.std.specs.Prelude.{◌*◌, ◌≡◌, refl, true, [], length}
+use Rattle.std.specs.Prelude.{◌≡◌, refl, true, [], length}
 use Prim.Native.Char.{code as chr}
 use Rattle.laws.specs.If.{when◌then◌else◌}
 use Rattle.sentence.specs.Sentence.{none, cell, final, Sentence, text_of}

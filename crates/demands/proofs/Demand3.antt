@@ -11,7 +11,6 @@ use lib.IntN.{ℤ}
 use lib.ListN.{length, take, drop, replicate, length-replicate}
 use Rattle.laws.specs.If.{when◌then◌else◌}
 use Rattle.laws.specs.Put.{over}
-use Rattle.laws.proofs.Facts.{reads}
 use Rattle.sentence.specs.Sentence.{Sentence, count, Agree, Formed}
 use Rattle.sentence.specs.declared.Form.{Form}
 use Rattle.sentence.specs.declared.Form.TheVariants.{Tokenized as tokenized, Partial as partial}

@@ -26,7 +26,6 @@ use Rattle.sentence.proofs.Forms.{writer_reads}
 use Rattle.sheet.specs.declared.Record.{Record}
 use Rattle.sheet.specs.declared.Answer.{Answer}
 use Rattle.sheet.specs.declared.Answer.TheVariants as answer
-use Rattle.sheet.specs.declared.Number.TheVariants as number
 use Rattle.sheet.specs.Layout.{Buffers, record_of, tags_of, cells_of, bytes_of, room_for, Holds, spell}
 use Rattle.sheet.specs.Check.{in_limits, is_laid, is_sheet}
 use Rattle.sheet.specs.Listed.{row_ends_of, tag_ends_of, Lists}

@@ -2,7 +2,7 @@
 use Prim.Native.Nat.{ℕ, ◌^◌, ◌<◌}
 use native.Mathlib.Omega.{arith}
 use mathlib.Core.Path.{◌≡◌, refl, sym, ap, ◌∙◌}
-use mathlib.Core.Bool.{Bool, true, false, not, false≢true}
+use mathlib.Core.Bool.{Bool, false, not, false≢true}
 use mathlib.Core.List.{List, []}
 use borrow.Author.Tests.{lt-ltb, ltb-true, not-false}
 use lib.Dec.{ltb}
@@ -33,7 +33,6 @@ use Rattle.tokens.specs.Steps.{next_of}
 use Rattle.tokens.specs.declared.Next.{Next}
 use Rattle.tokens.specs.declared.Next.TheVariants as next
 use Rattle.convert_buffers.specs.Between.{Outcome, refuses, between, answer_of, output_of}
-use Rattle.convert_buffers.specs.declared.Converted.TheVariants as converted
 use Rattle.convert.specs.Convert.{unknown_forms, out_of_range, conversion}
 use Rattle.exports.proofs.Lengths.{written_small}
 use Rattle.exports.proofs.Codes.{small_place}

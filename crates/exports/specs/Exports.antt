@@ -1,5 +1,5 @@
 -- What the host's calls answer as one number, and what they leave in lent memory.
-use Rattle.std.specs.Prelude.{ℕ, ◌^◌, ◌≡◌, false, List, [], ◌∷◌, ltb, length}
+use Rattle.std.specs.Prelude.{ℕ, ◌≡◌, false, List, [], ◌∷◌, ltb, length}
 use Rattle.laws.specs.If.{when◌then◌else◌}
 use Rattle.laws.specs.Put.{over}
 use Rattle.sentence.specs.Sentence.{count}

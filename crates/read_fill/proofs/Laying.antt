@@ -27,7 +27,7 @@ use Rattle.read_state.specs.Flags.{state_of, flags, act_of, stepped}
 use Rattle.read_state.proofs.Enums.{state_back}
 use Rattle.read_state.proofs.Advances.{advance_of, Goes, advanced}
 use Rattle.read_counts.specs.declared.Counts.{Counts}
-use Rattle.read_counts.specs.Counts.{Small, nothing, bytes, tally_by, tally}
+use Rattle.read_counts.specs.Counts.{Small, nothing, tally_by, tally}
 use Rattle.read_counts.proofs.Bounds.{nothing_small, small_more, tally_small}
 use Rattle.read_counts.proofs.Spans.{Span, span, tally_width}
 use Rattle.read_stores.specs.Stores.{Store, Stored, Bytes, Turning, Finishing, Finished}

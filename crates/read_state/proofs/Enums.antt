@@ -9,7 +9,6 @@ use Rattle.sentence.proofs.Shape.{ActOf}
 use Rattle.read_state.specs.declared.Mark.{Mark}
 use Rattle.read_state.specs.declared.Mark.TheVariants.{None, Word, Unknown}
 use Rattle.read_state.specs.declared.Kind.{Kind}
-use Rattle.read_state.specs.declared.State.{State}
 use Rattle.read_state.specs.Flags.{mark_of, mark_in, kind_in, kind_of, place, place_of, state_of, flags_at, flags, act_in, before_in, act_by}
 
 pub mark_back : (m : Mark) → mark_in (mark_of m) ≡ m

@@ -9,7 +9,6 @@ use Rattle.utf8.specs.Utf8.{width, encode}
 use Rattle.utf8.proofs.Codec.{length_encode}
 use Rattle.types.specs.TypeOf.{type_of}
 use Rattle.sentence.specs.Sentence.{code}
-use Rattle.sentence.specs.Reading as reading
 use Rattle.sheet.specs.Layout.{Buffers, buffers}
 use Rattle.sheet.proofs.Eights.{in_order}
 use Rattle.read_state.specs.declared.Act.TheVariants.{Skip, Letter, Opens, OfTag}

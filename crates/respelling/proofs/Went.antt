@@ -14,7 +14,7 @@ use Rattle.laws.specs.If.{when◌then◌else◌, if_true, if_false, if_cases}
 use Rattle.respelling.specs.declared.Stand.{Stand}
 use Rattle.respelling.specs.declared.Call.{Call}
 use Rattle.respelling.specs.Stream.{Done, turn}
-use Rattle.respelling.specs.Run.{State, state_of, begins, answers, reads, writes, fails, is_due, calls, goes, Move, by_answer, by_read, by_write, by_nothing, by_failure, Run, start, moves, Stands, first, held_end, answered_stand, Answered, Kept, read_told, write_told, after_failure, after_read, after_write, Behind, ReadSome, WroteSome, goes_on, Went, Ran, Ended}
+use Rattle.respelling.specs.Run.{State, state_of, begins, answers, reads, writes, fails, is_due, calls, goes, Move, by_answer, by_read, by_write, by_nothing, by_failure, start, moves, Stands, first, held_end, answered_stand, Answered, Kept, read_told, write_told, after_failure, after_read, after_write, Behind, ReadSome, WroteSome, goes_on, Went, Ran, Ended}
 use Rattle.respelling.specs.Respell.{respell, whole}
 use Rattle.respelling.proofs.Runs.{finished}
 use Rattle.respelling.proofs.Whole.{only_whole}

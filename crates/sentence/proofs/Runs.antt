@@ -1,16 +1,15 @@
 -- The reader over what a writer writes, token by token and character by character: what a run gathers. Assumes nothing.
-use Prim.Native.Nat.{ℕ, zero, max}
+use Prim.Native.Nat.{ℕ}
 use mathlib.Core.Path.{◌≡◌, refl, ◌∙◌}
-use mathlib.Core.Bool.{true, false}
+use mathlib.Core.Bool.{false}
 use mathlib.Core.List.{List, [], ◌∷◌, ◌++◌, append_assoc, append-nil}
 use lib.Dec.{eqb}
-use lib.ListN.{length}
 use Rattle.laws.specs.If.{when◌then◌else◌}
 use Rattle.laws.specs.All.{All}
-use Rattle.sentence.specs.Sentence.{Tag, Mark, none, word, Char}
+use Rattle.sentence.specs.Sentence.{Tag, Mark, Char}
 use Rattle.sentence.specs.declared.Form.{Form}
 use Rattle.sentence.specs.declared.Form.TheVariants.{Raw as raw, Tokenized as tokenized, Partial as partial}
-use Rattle.sentence.specs.Reading.{Annotated, Kind, mark, slash, back, plain, kind, Place, behind, in_tag, gap, State, at, escaped, Act, skip, go, ordinary, inside, step, advance, Run, whole, stopped, ending, finish, push, follow, run, Rest, over, next, Parsed, parsed, before, add, gather}
+use Rattle.sentence.specs.Reading.{Annotated, Kind, mark, slash, back, plain, kind, Place, behind, in_tag, gap, State, at, escaped, Act, skip, go, ordinary, inside, step, advance, Run, whole, stopped, ending, finish, push, follow, run, Rest, over, Parsed, parsed, add, gather}
 use Rattle.sentence.specs.Writing.{escape_as, escape, write_tags}
 
 -- what the acts of a run gather, or its refusal

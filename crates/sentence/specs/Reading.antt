@@ -1,5 +1,5 @@
 -- Reading a line: one reader, a small state that each character steps, for the raw, the tokenized and the partial form.
-use Rattle.std.specs.Prelude.{ℕ, zero, ◌+◌, ◌-◌, max, true, false, List, [], ◌∷◌, ◌++◌, eqb, ltb, length}
+use Rattle.std.specs.Prelude.{ℕ, ◌-◌, max, List, [], ◌∷◌, eqb, ltb, length}
 use Prim.Native.Char.{code as chr}
 use Rattle.laws.specs.If.{when◌then◌else◌}
 use Rattle.utf8.specs.Utf8.{scalars, valid_prefix, size}

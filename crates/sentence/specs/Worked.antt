@@ -1,12 +1,12 @@
 -- Worked lines: what is asked of a line, and the answer, as numbers. The first of them are document 01's marked ones.
-use Rattle.std.specs.Prelude.{ℕ, zero, ◌≡◌, refl, true, false, List, [], ◌∷◌, ◌++◌, map, ℤ, pos, negsuc}
+use Rattle.std.specs.Prelude.{ℕ, ◌≡◌, refl, List, [], ◌∷◌, ◌++◌, map, ℤ, pos, negsuc}
 use Prim.Native.Char.{code as chr}
 use Rattle.laws.specs.If.{when◌then◌else◌}
 use Rattle.laws.specs.Quoted.{quoted}
 use Rattle.utf8.specs.Utf8.{utf8_2, utf8_3, utf8_4, char_of, walk, wholes, values, width, encode, encodes, size}
 use Rattle.utf8.specs.Text.{utf8_of}
 use Rattle.types.specs.TypeOf.{find, ranges, type_of}
-use Rattle.sentence.specs.Sentence.{Tag, none, word, unknown, code, final, Sentence, text_of, marks_of, rows_of, text, marks, rows}
+use Rattle.sentence.specs.Sentence.{Tag, none, word, unknown, code, Sentence, text_of, marks_of, rows_of, text, marks, rows}
 use Rattle.sentence.specs.Sentence.{count, types, starts, numbers, char_positions, byte_positions, onto, cut, pad}
 use Rattle.sentence.specs.declared.Form.{Form}
 use Rattle.sentence.specs.declared.Form.TheVariants.{Raw as raw, Tokenized as tokenized, Partial as partial}

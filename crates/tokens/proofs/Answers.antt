@@ -2,13 +2,12 @@
 use Prim.Native.Nat.{ℕ, ◌≤◌, ◌<◌}
 use mathlib.Core.Path.{◌≡◌, refl, sym, ap, ◌∙◌}
 use mathlib.Core.Bool.{Bool, true, false}
-use mathlib.Core.List.{[], ◌∷◌}
 use native.Mathlib.Omega.{arith}
 use borrow.Author.Tests.{lt-ltb, le-ltb, not-true, not-false}
 use lib.ListN.{length}
 use Rattle.laws.specs.If.{when◌then◌else◌}
 use Rattle.sentence.specs.declared.Refusal.{Refusal}
-use Rattle.sentence.specs.Sentence.{marks, count}
+use Rattle.sentence.specs.Sentence.{marks}
 use Rattle.sentence.specs.Writing.{tokens_from, Served, serves, done, next_token_of}
 use Rattle.sentence.specs.Refusals.{refusal, verdict}
 use Rattle.sheet.specs.declared.Record.{Record}

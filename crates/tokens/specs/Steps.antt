@@ -1,5 +1,5 @@
 -- What the cursor and the list answer: the values of tokens and steps, and the boundaries that they are taken from.
-use Rattle.std.specs.Prelude.{ℕ, ◌+◌, ◌-◌, ◌≤◌, ◌≡◌, true, false, not, List, [], ◌∷◌, map, ltb, length, take}
+use Rattle.std.specs.Prelude.{ℕ, ◌+◌, ◌-◌, ◌≤◌, ◌≡◌, false, not, List, map, ltb, length, take}
 use Rattle.laws.specs.Put.{over}
 use Rattle.sentence.specs.Sentence.{Mark, marks, count}
 use Rattle.sentence.specs.Writing.{Token, token, tokens_from, Served, serves, done, next_token_of}

@@ -8,7 +8,6 @@ use borrow.Author.Tests.{ne_eqb}
 use lib.ListN.{length, get_or, set, take, drop, replicate}
 use Rattle.laws.specs.Put.{left_step, left_none}
 use Rattle.laws.specs.If.{when◌then◌else◌}
-use Rattle.sentence.specs.Sentence.{none}
 use Rattle.sentence.specs.Reading.{Kind, mark, slash, back, plain, kind}
 use Rattle.sentence.specs.declared.Form.{Form}
 use Rattle.sentence.specs.Writing.{escape_as, escape}

@@ -12,7 +12,7 @@ use lib.Seq.{slice_empty}
 use Rattle.laws.specs.If.{when◌then◌else◌, if_true, if_false}
 use Rattle.utf8.specs.Utf8.{width, encodes, size}
 use Rattle.utf8.proofs.Codec.{length_encode, encodes_append}
-use Rattle.sentence.specs.Sentence.{Tag, Mark, none, word, unknown, Cells, final, cell, text_of, rows_of, text, row_bytes, tag_bytes, Row, CellsOf}
+use Rattle.sentence.specs.Sentence.{Tag, Mark, none, word, unknown, Cells, final, cell, text_of, rows_of, row_bytes, tag_bytes, Row, CellsOf}
 use Rattle.sentence.specs.declared.Form.TheVariants.{Partial as partial}
 use Rattle.sentence.specs.Writing.{escape, write_tags, sign, shown, write_partial, line, written}
 use Rattle.sentence.specs.Withheld.{hidden}

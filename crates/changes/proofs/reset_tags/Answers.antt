@@ -4,7 +4,6 @@ use native.Mathlib.Omega.{arith}
 use Rattle.sheet.specs.declared.Answer.TheVariants as answer
 use Rattle.changes.proofs.Outcome.{lays_refused, lays_served}
 use Rattle.changes.proofs.Resets.{reset_broken, reset-outside, product_few, reset_lacks, reset_served, reset-room}
-use borrow.Author.Rules.{rules}
 use mathlib.Core.Bool.{not}
 use Rattle.changes.proofs.reset_tags.Goals as goal
 

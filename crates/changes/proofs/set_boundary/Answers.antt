@@ -9,7 +9,6 @@ use Rattle.sheet.specs.declared.Answer.TheVariants as answer
 use Rattle.sheet.proofs.Look.{broken, outside, inside, checked, bounds}
 use Rattle.changes.specs.Changes.{boundary_answer}
 use Rattle.changes.proofs.Outcome.{lays_refused, lays_served}
-use borrow.Author.Rules.{rules}
 use mathlib.Core.Bool.{not}
 use Rattle.changes.proofs.set_boundary.Goals as goal
 use Rattle.changes.proofs.set_boundary.Goals.{Else-i-r}

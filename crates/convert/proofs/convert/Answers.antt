@@ -3,7 +3,6 @@ use Prim.Native.Nat.{◌+◌, ◌≤◌}
 use native.Mathlib.Omega.{arith}
 use lib.ListN.{length}
 use Rattle.convert.proofs.Placed.{unknown, outside, in_range_lem, to_annotated, few, placed_line, placed_refusal}
-use borrow.Author.Rules.{rules}
 use Rattle.convert.proofs.convert.Goals as goal
 use Rattle.convert.proofs.convert.Goals.{In-Wrote}
 

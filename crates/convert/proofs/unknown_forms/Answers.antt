@@ -1,6 +1,5 @@
 -- `convert::unknown_forms` meets its contract.
 use Rattle.convert.specs.Convert.{unknown_forms}
-use borrow.Author.Rules.{rules}
 use Rattle.convert.proofs.unknown_forms.Goals as goal
 
 pub returns : goal.returns

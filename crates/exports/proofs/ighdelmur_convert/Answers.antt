@@ -1,6 +1,5 @@
 -- `exports::ighdelmur_convert` meets its contract: places are small, so that the number fits.
 use Rattle.exports.proofs.Codes.{small_place, code_wrote, code_refused}
-use borrow.Author.Rules.{rules}
 use Rattle.exports.proofs.ighdelmur_convert.Goals as goal
 
 pub refusal_code-requires : goal.refusal_code-requires

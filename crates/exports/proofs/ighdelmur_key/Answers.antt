@@ -1,7 +1,6 @@
 -- `exports::ighdelmur_key` meets its contract.
 use Rattle.exports.proofs.Places.{near_keyed}
 use Rattle.exports.proofs.Told.{keys}
-use borrow.Author.Rules.{rules}
 use Rattle.exports.proofs.ighdelmur_key.Goals as goal
 
 pub tell_number-requires : goal.tell_number-requires

@@ -1,7 +1,6 @@
 -- `exports::ighdelmur_withhold` meets its contract.
 use Rattle.exports.proofs.Places.{near_brought}
 use Rattle.exports.proofs.Told.{withholds}
-use borrow.Author.Rules.{rules}
 use Rattle.exports.proofs.ighdelmur_withhold.Goals as goal
 
 pub tell_number-requires : goal.tell_number-requires

@@ -2,7 +2,6 @@
 use Rattle.exports.proofs.Places.{near_written}
 use Rattle.sentence.proofs.Forms.{annotated}
 use Rattle.exports.proofs.Told.{writes_16, writes_on}
-use borrow.Author.Rules.{rules}
 use Rattle.exports.proofs.ighdelmur_write.Goals as goal
 
 pub returns-then-no_writer : goal.returns-then-no_writer

@@ -1,6 +1,5 @@
 -- `exports::nearest_in` meets its contract.
 use Rattle.exports.proofs.Told.{brought_length, brought_refusal}
-use borrow.Author.Rules.{rules}
 use Rattle.exports.proofs.nearest_in.Goals as goal
 
 pub returns-in-Is : goal.returns-in-Is

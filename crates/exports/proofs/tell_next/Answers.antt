@@ -1,7 +1,6 @@
 -- `exports::tell_next` meets its contract.
 use Rattle.exports.proofs.Places.{next_near}
 use Rattle.exports.proofs.Told.{tells_step, tells_refused}
-use borrow.Author.Rules.{rules}
 use Rattle.exports.proofs.tell_next.Goals as goal
 
 pub refusal_code-requires : goal.refusal_code-requires

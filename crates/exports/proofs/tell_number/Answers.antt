@@ -1,7 +1,6 @@
 -- `exports::tell_number` meets its contract.
 use Rattle.exports.proofs.Places.{number_near}
 use Rattle.exports.proofs.Told.{told_length, told_number}
-use borrow.Author.Rules.{rules}
 use Rattle.exports.proofs.tell_number.Goals as goal
 
 pub refusal_code-requires : goal.refusal_code-requires

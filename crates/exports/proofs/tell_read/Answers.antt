@@ -1,7 +1,6 @@
 -- `exports::tell_read` meets its contract.
 use Rattle.exports.proofs.Places.{answer_near}
 use Rattle.exports.proofs.Told.{told_refused, told_sentence}
-use borrow.Author.Rules.{rules}
 use Rattle.exports.proofs.tell_read.Goals as goal
 
 pub refusal_code-requires : goal.refusal_code-requires

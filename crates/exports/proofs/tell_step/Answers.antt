@@ -1,7 +1,6 @@
 -- `exports::tell_step` meets its contract.
 use Rattle.exports.proofs.Places.{near_start}
 use Rattle.exports.proofs.Told.{steps_14, steps_served, steps_done}
-use borrow.Author.Rules.{rules}
 use Rattle.exports.proofs.tell_step.Goals as goal
 
 pub refusal_code-requires : goal.refusal_code-requires

@@ -1,6 +1,5 @@
 -- `exports::write_as` meets its contract.
 use Rattle.exports.proofs.Told.{as_raw, as_named}
-use borrow.Author.Rules.{rules}
 use Rattle.exports.proofs.write_as.Goals as goal
 
 pub returns-in-Raw : goal.returns-in-Raw

@@ -5,7 +5,6 @@ use native.Mathlib.Omega.{arith}
 use Rattle.sheet.specs.declared.Number.TheVariants.{Is, Refused}
 use Rattle.sheet.proofs.Look.{broken, outside, inside, checked, bounds}
 use Rattle.lookups.specs.Answers.{boundary_at}
-use borrow.Author.Rules.{rules}
 use mathlib.Core.Bool.{not}
 use Rattle.lookups.proofs.boundary.Goals as goal
 

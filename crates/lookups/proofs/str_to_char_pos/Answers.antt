@@ -5,7 +5,6 @@ use borrow.Author.Tests.{lt-ltb}
 use Rattle.sheet.specs.declared.Number.TheVariants.{Refused}
 use Rattle.sheet.proofs.Look.{broken, outside, checked, bounds}
 use Rattle.lookups.specs.Answers.{str_to_char_pos_of}
-use borrow.Author.Rules.{rules}
 use mathlib.Core.Bool.{not}
 use Rattle.lookups.proofs.str_to_char_pos.Goals as goal
 

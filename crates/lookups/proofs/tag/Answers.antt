@@ -4,7 +4,6 @@ use Rattle.sheet.specs.declared.Slice.TheVariants.{Refused}
 use Rattle.sheet.proofs.Look.{broken, outside, inside, checked, bounds}
 use Rattle.lookups.specs.Answers.{tag_at}
 use Rattle.lookups.proofs.Laws.{in_table}
-use borrow.Author.Rules.{rules}
 use mathlib.Core.Bool.{not}
 use Rattle.lookups.proofs.tag.Goals as goal
 

@@ -1,5 +1,4 @@
 -- `read::from_partial_annotation` meets its contract.
-use borrow.Author.Rules.{rules}
 use Rattle.read.proofs.from_partial_annotation.Goals as goal
 
 pub returns : goal.returns

@@ -1,5 +1,4 @@
 -- `read::from_raw` meets its contract.
-use borrow.Author.Rules.{rules}
 use Rattle.read.proofs.from_raw.Goals as goal
 
 pub returns : goal.returns

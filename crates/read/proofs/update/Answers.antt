@@ -1,7 +1,5 @@
 -- `read::update` meets its contract.
 use Rattle.read.proofs.Ways.{update_lacks, update_done, update_refused}
-use mathlib.Core.Path.{◌∙◌}
-use borrow.Author.Rules.{rules}
 use mathlib.Core.Bool.{not}
 use mathlib.Core.Path.{ap}
 use Rattle.read.proofs.update.Goals as goal

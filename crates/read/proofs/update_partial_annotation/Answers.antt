@@ -1,5 +1,4 @@
 -- `read::update_partial_annotation` meets its contract.
-use borrow.Author.Rules.{rules}
 use Rattle.read.proofs.update_partial_annotation.Goals as goal
 
 pub returns : goal.returns

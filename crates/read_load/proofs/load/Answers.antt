@@ -1,6 +1,5 @@
 -- `read_load::load` meets its contract.
 use Rattle.read_load.proofs.Ways.{read_small, read_refused, read_lacks, read_fits, read_done}
-use borrow.Author.Rules.{rules}
 use mathlib.Core.Bool.{not}
 use mathlib.Core.Path.{ap}
 use Rattle.read_load.proofs.load.Goals as goal

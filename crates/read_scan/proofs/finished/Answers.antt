@@ -1,6 +1,5 @@
 -- `read_scan::finished` meets its contract.
 use Rattle.read_scan.proofs.Scanning.{told_whole, told_stop}
-use borrow.Author.Rules.{rules}
 use Rattle.read_scan.proofs.finished.Goals as goal
 
 pub returns-in-Whole : goal.returns-in-Whole

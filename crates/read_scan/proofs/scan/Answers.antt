@@ -1,10 +1,7 @@
 -- `read_scan::scan` meets its contract.
-use borrow.Author.Rules.{rules}
 use Rattle.read_counts.proofs.Spans.{Span}
-use Rattle.read_scan.proofs.Scanning.{Scanning, scan_small, scan_start, stands, scan_go, scan_stop, scan_bad, scan_end, scan_long}
-use lib.ListN.{length}
+use Rattle.read_scan.proofs.Scanning.{scan_small, scan_start, stands, scan_go, scan_stop, scan_bad, scan_end, scan_long}
 use native.Mathlib.Omega.{arith}
-use Prim.Native.Nat.{◌-◌}
 use Rattle.read_scan.proofs.scan.Goals as goal
 use Rattle.read_scan.proofs.scan.Goals.{In-Char}
 

@@ -3,7 +3,6 @@ use Prim.Native.Nat.{◌+◌, ◌≤◌}
 use lib.ListN.{length}
 use Rattle.read_scan.proofs.Prefixes.{part_fits, stopped_invalid, stopped_valid}
 use native.Mathlib.Omega.{arith}
-use borrow.Author.Rules.{rules}
 use Rattle.read_scan.proofs.stopped.Goals as goal
 use Rattle.read_scan.proofs.stopped.Goals.{After-valid_up_to}
 

@@ -1,7 +1,6 @@
 -- `read_state::meaning` meets its contract.
 use Rattle.sentence.specs.Reading.{kind}
 use Rattle.read_state.specs.Flags.{kind_in}
-use borrow.Author.Rules.{rules}
 use Rattle.read_state.proofs.meaning.Goals as goal
 
 pub returns-in-Raw : goal.returns-in-Raw

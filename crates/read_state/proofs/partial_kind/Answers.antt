@@ -1,5 +1,4 @@
 -- `read_state::partial_kind` meets its contract.
-use borrow.Author.Rules.{rules}
 use Rattle.laws.proofs.Tests.{tests}
 use Rattle.sentence.specs.Reading.{kind}
 use Rattle.read_state.specs.Flags.{kind_in, mark_in}

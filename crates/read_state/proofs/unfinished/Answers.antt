@@ -1,6 +1,5 @@
 -- `read_state::unfinished` meets its contract.
 use Rattle.sentence.specs.Reading.{unfinished}
-use borrow.Author.Rules.{rules}
 use Rattle.read_state.proofs.unfinished.Goals as goal
 
 pub returns-in-Raw : goal.returns-in-Raw

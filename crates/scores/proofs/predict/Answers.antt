@@ -6,7 +6,6 @@ use Rattle.sheet.specs.declared.Answer.TheVariants as answer
 use Rattle.sheet.proofs.Look.{broken, outside, inside, checked, bounds}
 use Rattle.changes.proofs.Outcome.{lays_refused, lays_served}
 use Rattle.scores.specs.Scores.{score_answer}
-use borrow.Author.Rules.{rules}
 use mathlib.Core.Bool.{not}
 use Rattle.scores.proofs.predict.Goals as goal
 

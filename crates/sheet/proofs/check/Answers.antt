@@ -1,5 +1,4 @@
 -- `sheet::check` meets its contract.
-use borrow.Author.Rules.{rules}
 use Rattle.sheet.proofs.Whole.{no-fit, room-met, sheet-is}
 use mathlib.Core.Bool.{not}
 use mathlib.Core.Path.{ap}

@@ -1,5 +1,4 @@
 -- `sheet::fits` meets its contract.
-use borrow.Author.Rules.{rules}
 use Rattle.sheet.proofs.Whole.{fits_same}
 use Rattle.sheet.proofs.fits.Goals as goal
 

@@ -1,6 +1,5 @@
 -- `sheet::is_laid` meets its contract.
 use Rattle.sheet.proofs.Whole.{prefix_long, no_text, no-marks, laid_is}
-use borrow.Author.Rules.{rules}
 use Rattle.sheet.proofs.is_laid.Goals as goal
 
 pub slice_bounds-is_text-end : goal.slice_bounds-is_text-end

@@ -1,11 +1,6 @@
 -- `sheet_check::are_absent` meets its contract.
-use Prim.Native.Nat.{◌-◌}
 use mathlib.Core.Path.{refl}
-use mathlib.Core.Bool.{◌&&◌}
-use borrow.Author.Rules.{rules}
-use lib.ListN.{length, drop}
-use Rattle.sheet_check.specs.Passes.{are_absent}
-use Rattle.sheet_check.proofs.Steps.{Left, left_all}
+use Rattle.sheet_check.proofs.Steps.{left_all}
 use Rattle.sheet_check.proofs.Cells.{absent_go, absent_done}
 use Rattle.sheet_check.proofs.are_absent.Goals as goal
 

@@ -1,11 +1,6 @@
 -- `sheet_check::are_marks` meets its contract.
-use Prim.Native.Nat.{◌-◌}
 use mathlib.Core.Path.{refl}
-use mathlib.Core.Bool.{◌&&◌}
-use borrow.Author.Rules.{rules}
-use lib.ListN.{length, drop}
-use Rattle.sheet_check.specs.Passes.{are_marks}
-use Rattle.sheet_check.proofs.Steps.{Left, left_and, left_all, marks_step, marks_done}
+use Rattle.sheet_check.proofs.Steps.{left_and, left_all, marks_step, marks_done}
 use Rattle.sheet_check.proofs.are_marks.Goals as goal
 
 pub loop-i-init : goal.loop-i-init

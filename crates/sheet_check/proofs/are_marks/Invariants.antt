@@ -1,11 +1,9 @@
 -- `sheet_check::are_marks` meets its contract.
 use Prim.Native.Nat.{◌-◌}
-use mathlib.Core.Path.{refl}
 use mathlib.Core.Bool.{◌&&◌}
-use borrow.Author.Rules.{rules}
 use lib.ListN.{length, drop}
 use Rattle.sheet_check.specs.Passes.{are_marks}
-use Rattle.sheet_check.proofs.Steps.{Left, left_and, left_all, marks_step, marks_done}
+use Rattle.sheet_check.proofs.Steps.{Left}
 use Rattle.sheet_check.proofs.are_marks.Given as goal
 
 abbrev pub invariant-loop-i : goal.invariant-loop-i

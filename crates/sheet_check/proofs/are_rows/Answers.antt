@@ -1,8 +1,5 @@
 -- `sheet_check::are_rows` meets its contract.
-use Prim.Native.Nat.{◌-◌}
-use borrow.Author.Rules.{rules}
-use lib.ListN.{length}
-use Rattle.sheet_check.proofs.Cells.{Rows, rows_start, rows_row, rows-go, rows-no, rows-rest, rows-done}
+use Rattle.sheet_check.proofs.Cells.{rows_start, rows_row, rows-go, rows-no, rows-rest, rows-done}
 use Rattle.sheet_check.proofs.are_rows.Goals as goal
 
 pub loop-i-init : goal.loop-i-init

@@ -1,9 +1,6 @@
 -- `sheet_check::each_cell` meets its contract.
-use Prim.Native.Nat.{◌-◌}
 use native.Mathlib.Omega.{arith}
-use lib.ListN.{length}
-use borrow.Author.Rules.{rules}
-use Rattle.sheet_check.proofs.Cells.{Celled, cells_start, cells-go, cells-no, cells-done}
+use Rattle.sheet_check.proofs.Cells.{cells_start, cells-go, cells-no, cells-done}
 use Rattle.sheet_check.proofs.each_cell.Goals as goal
 
 pub loop-i-init : goal.loop-i-init

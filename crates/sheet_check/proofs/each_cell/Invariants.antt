@@ -1,9 +1,7 @@
 -- `sheet_check::each_cell` meets its contract.
 use Prim.Native.Nat.{◌-◌}
-use native.Mathlib.Omega.{arith}
 use lib.ListN.{length}
-use borrow.Author.Rules.{rules}
-use Rattle.sheet_check.proofs.Cells.{Celled, cells_start, cells-go, cells-no, cells-done}
+use Rattle.sheet_check.proofs.Cells.{Celled}
 use Rattle.sheet_check.proofs.each_cell.Given as goal
 
 abbrev pub invariant-loop-i : goal.invariant-loop-i

@@ -1,5 +1,4 @@
 -- `sheet_check::inner_zero` meets its contract.
-use borrow.Author.Rules.{rules}
 use Rattle.sheet_check.proofs.Steps.{inner_one, inner-no, inner-two, inner-no-2, inner-three, inner_last}
 use Rattle.sheet_check.proofs.inner_zero.Goals as goal
 

@@ -1,6 +1,5 @@
 -- `sheet_check::is_cell` meets its contract.
 use Rattle.sheet_check.proofs.Cells.{cell_elsewhere, cell_none, cell_past, cell_plain}
-use borrow.Author.Rules.{rules}
 use Rattle.sheet_check.proofs.is_cell.Goals as goal
 
 pub returns-then-start-from : goal.returns-then-start-from

@@ -1,6 +1,5 @@
 -- `sheet_check::is_char` meets its contract.
 use native.Mathlib.Omega.{arith}
-use borrow.Author.Rules.{rules}
 use Rattle.sheet_check.proofs.Steps.{char_nul, char-type, char-start, char-number, char-inner}
 use Rattle.sheet_check.proofs.is_char.Goals as goal
 

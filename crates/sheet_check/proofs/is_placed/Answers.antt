@@ -1,11 +1,8 @@
 -- `sheet_check::is_placed` meets its contract.
 use mathlib.Core.Path.{ap}
 use mathlib.Core.Bool.{not}
-use Prim.Native.Nat.{◌-◌}
 use native.Mathlib.Omega.{arith}
-use borrow.Author.Rules.{rules}
-use lib.ListN.{length}
-use Rattle.sheet_check.proofs.Steps.{Reach, reach, Reading, read_start, read-few, read_fits, read_no, read-go, read_bad, read_end, read_done}
+use Rattle.sheet_check.proofs.Steps.{Reach, reach, read_start, read-few, read_fits, read_no, read-go, read_bad, read_end, read_done}
 use Rattle.sheet_check.proofs.is_placed.Goals as goal
 use Rattle.sheet_check.proofs.is_placed.Goals.{In-Char}
 

@@ -1,9 +1,7 @@
 -- `sheet_check::is_placed` meets its contract.
 use Prim.Native.Nat.{◌-◌}
-use native.Mathlib.Omega.{arith}
-use borrow.Author.Rules.{rules}
 use lib.ListN.{length}
-use Rattle.sheet_check.proofs.Steps.{Reach, reach, Reading, read_start, read-few, read_fits, read_no, read-go, read_bad, read_end, read_done}
+use Rattle.sheet_check.proofs.Steps.{Reading}
 use Rattle.sheet_check.proofs.is_placed.Given as goal
 
 abbrev pub invariant-loop-at : goal.invariant-loop-at

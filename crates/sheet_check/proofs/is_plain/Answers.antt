@@ -1,10 +1,7 @@
 -- `sheet_check::is_plain` meets its contract.
-use Prim.Native.Nat.{◌-◌}
 use mathlib.Core.Path.{refl}
 use native.Mathlib.Omega.{arith}
-use borrow.Author.Rules.{rules}
-use lib.ListN.{length}
-use Rattle.sheet_check.proofs.Steps.{Plainly, plainly_go, plainly_nul, plainly_bad, plainly_end, plainly_done, Reach, reach}
+use Rattle.sheet_check.proofs.Steps.{plainly_go, plainly_nul, plainly_bad, plainly_end, plainly_done, Reach, reach}
 use Rattle.sheet_check.proofs.is_plain.Goals as goal
 use Rattle.sheet_check.proofs.is_plain.Goals.{In-Char}
 

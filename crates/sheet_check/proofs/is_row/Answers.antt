@@ -1,5 +1,4 @@
 -- `sheet_check::is_row` meets its contract.
-use borrow.Author.Rules.{rules}
 use Rattle.sheet_check.proofs.Cells.{row_absent}
 use Rattle.sheet_check.proofs.is_row.Goals as goal
 

@@ -1,5 +1,4 @@
 -- `sheet_check::is_text` meets its contract.
-use borrow.Author.Rules.{rules}
 use Rattle.sheet_check.proofs.Says.{few_starts, few_numbers}
 use Rattle.sheet_check.proofs.is_text.Goals as goal
 

@@ -1,6 +1,5 @@
 -- `tokens::needed` meets its contract, by what it tested.
 use Rattle.tokens.proofs.Answers.{is_bounded, answers}
-use borrow.Author.Rules.{rules}
 use Rattle.tokens.proofs.needed.Goals as goal
 
 pub returns-then-not-check : goal.returns-then-not-check

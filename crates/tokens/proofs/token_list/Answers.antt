@@ -1,11 +1,10 @@
 -- What is known of the records to fill makes each turn fill one, and the list the one that is promised.
-use mathlib.Core.Path.{sym, ◌∙◌, ap}
-use Rattle.std.proofs.Common.{rules, ◌≡◌, ◌<◌, ◌≤◌, length, arith}
-use Rattle.sentence.specs.Writing.{next_token_of}
+use mathlib.Core.Path.{◌∙◌, ap}
+use Rattle.std.proofs.Common.{arith}
 use Rattle.sheet.specs.Layout.{buffers}
-use Rattle.tokens.specs.Steps.{count_of, filled_of, span_in, marks_in, Listed}
+use Rattle.tokens.specs.Steps.{filled_of}
 use Rattle.tokens.proofs.Cursor.{Following}
-use Rattle.tokens.proofs.Lists.{Partway, partway_start, partway_next, serves_next, Fills, fills, listed}
+use Rattle.tokens.proofs.Lists.{partway_start, partway_next, serves_next, Fills, fills, listed}
 use Rattle.tokens.proofs.token_list.Goals as goal
 use Rattle.tokens.proofs.token_list.Goals.{After-filled-count, After-token_from-t}
 

@@ -1,7 +1,6 @@
 -- `utf8::byte_at` meets its contract.
 use lib.ListN.{get_or-eq_default}
 use mathlib.Core.Path.{sym}
-use borrow.Author.Rules.{rules}
 use Rattle.utf8.proofs.byte_at.Goals as goal
 
 pub returns-else-i-s : goal.returns-else-i-s

@@ -3,7 +3,6 @@ use borrow.Author.Tests.{lt-leb}
 use Rattle.laws.specs.If.{when◌then◌else◌}
 use Rattle.utf8.specs.Utf8.{char_of}
 use Rattle.laws.proofs.Tests.{tests, of_call}
-use borrow.Author.Rules.{rules}
 use Rattle.utf8.proofs.char_of.Goals as goal
 
 pub returns-then-a-le127 : goal.returns-then-a-le127

@@ -4,7 +4,6 @@ use native.Mathlib.Omega.{arith}
 use mathlib.Core.Path.{sym}
 use lib.ListN.{length, get_or}
 use Rattle.utf8.proofs.Laws.{decode_out, ascii_at, Ahead, ahead, Tails, tails, three_at}
-use borrow.Author.Rules.{rules}
 use Rattle.utf8.proofs.decode.Goals as goal
 use Rattle.utf8.proofs.decode.Goals.{Then-is_tail, Then-is_within-at}
 

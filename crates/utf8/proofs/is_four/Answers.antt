@@ -1,6 +1,5 @@
 -- `utf8::is_four` meets its contract.
 use Rattle.utf8.specs.Utf8.{utf8_4}
-use borrow.Author.Rules.{rules}
 use Rattle.utf8.proofs.is_four.Goals as goal
 
 pub returns : goal.returns

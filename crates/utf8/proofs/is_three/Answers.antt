@@ -1,6 +1,5 @@
 -- `utf8::is_three` meets its contract.
 use Rattle.utf8.specs.Utf8.{utf8_3}
-use borrow.Author.Rules.{rules}
 use Rattle.utf8.proofs.is_three.Goals as goal
 
 pub returns : goal.returns

@@ -1,7 +1,6 @@
 -- `utf8::longer` meets its contract.
 use mathlib.Core.Path.{sym, ◌∙◌}
 use Rattle.utf8.proofs.Laws.{decode_in}
-use borrow.Author.Rules.{rules}
 use Rattle.utf8.proofs.longer.Goals as goal
 
 pub returns : goal.returns

@@ -1,9 +1,6 @@
 -- `utf8::valid_up_to` meets its contract.
-use Prim.Native.Nat.{◌-◌}
 use native.Mathlib.Omega.{arith}
-use borrow.Author.Rules.{rules}
-use lib.ListN.{length}
-use Rattle.utf8.proofs.Laws.{Passed, Sized, len_met, decode_out, passed_char, passed_bad, passed_end}
+use Rattle.utf8.proofs.Laws.{Sized, len_met, decode_out, passed_char, passed_bad, passed_end}
 use Rattle.laws.proofs.Tests.{met}
 use Rattle.utf8.proofs.valid_up_to.Goals as goal
 use Rattle.utf8.proofs.valid_up_to.Goals.{In-Char}

@@ -1,10 +1,7 @@
 -- `utf8::valid_up_to` meets its contract.
 use Prim.Native.Nat.{◌-◌}
-use native.Mathlib.Omega.{arith}
-use borrow.Author.Rules.{rules}
 use lib.ListN.{length}
-use Rattle.utf8.proofs.Laws.{Passed, Sized, len_met, decode_out, passed_char, passed_bad, passed_end}
-use Rattle.laws.proofs.Tests.{met}
+use Rattle.utf8.proofs.Laws.{Passed}
 use Rattle.utf8.proofs.valid_up_to.Given as goal
 
 abbrev pub invariant-loop-at : goal.invariant-loop-at

@@ -1,6 +1,5 @@
 -- `write::note_key` meets its contract.
 use Rattle.write.proofs.Keys.{keyed}
-use borrow.Author.Rules.{rules}
 use Rattle.write.proofs.note_key.Goals as goal
 
 pub returns : goal.returns

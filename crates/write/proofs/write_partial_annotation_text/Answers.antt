@@ -1,10 +1,8 @@
 -- `write::write_partial_annotation_text` meets its contract.
 use mathlib.Core.Path.{refl}
-use Rattle.sentence.specs.declared.Form.TheVariants.{Partial as partial}
 use Rattle.sheet.proofs.Look.{checked}
 use Rattle.write_items.proofs.Room.{short_none}
 use Rattle.write.proofs.Laws.{put_13, put-12, put_line}
-use borrow.Author.Rules.{rules}
 use mathlib.Core.Bool.{not}
 use mathlib.Core.Path.{ap}
 use Rattle.write.proofs.write_partial_annotation_text.Goals as goal

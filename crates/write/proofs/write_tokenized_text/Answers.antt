@@ -3,7 +3,6 @@ use mathlib.Core.Path.{refl}
 use Rattle.sheet.proofs.Look.{checked}
 use Rattle.write_items.proofs.Room.{short_none}
 use Rattle.write.proofs.Laws.{put_13, put-12, put_line}
-use borrow.Author.Rules.{rules}
 use mathlib.Core.Bool.{not}
 use mathlib.Core.Path.{ap}
 use Rattle.write.proofs.write_tokenized_text.Goals as goal

@@ -2,7 +2,6 @@
 use Rattle.sheet.proofs.Look.{checked}
 use Rattle.write.proofs.Laws.{put_13}
 use Rattle.write.proofs.Withheld.{withhold_14, withhold-asks, withhold-12, withhold-room, withhold-line}
-use borrow.Author.Rules.{rules}
 use mathlib.Core.Bool.{not}
 use mathlib.Core.Path.{ap}
 use Rattle.write.proofs.write_withheld_text.Goals as goal

@@ -1,8 +1,6 @@
 -- `changes::unchecked::clear` meets its contract.
-use Prim.Native.Nat.{◌-◌, ◌≤◌}
 use borrow.Author.Rules.{rules}
-use lib.ListN.{length, replicate}
-use Rattle.laws.specs.Put.{Filling, fills}
+use Rattle.laws.specs.Put.{fills}
 use Rattle.changes.proofs.Kept.{zeros}
 use Rattle.changes.proofs.unchecked.clear.Goals as goal
 

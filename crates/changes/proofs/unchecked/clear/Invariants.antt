@@ -1,9 +1,7 @@
 -- `changes::unchecked::clear` meets its contract.
 use Prim.Native.Nat.{◌-◌, ◌≤◌}
-use borrow.Author.Rules.{rules}
 use lib.ListN.{length, replicate}
-use Rattle.laws.specs.Put.{Filling, fills}
-use Rattle.changes.proofs.Kept.{zeros}
+use Rattle.laws.specs.Put.{Filling}
 use Rattle.changes.proofs.unchecked.clear.Given as goal
 
 abbrev pub invariant-loop-i : goal.invariant-loop-i

@@ -1,6 +1,5 @@
 -- `changes::unchecked::reset_tags` meets its contract.
 use Rattle.changes.proofs.Kept.{reset_lays}
-use borrow.Author.Rules.{rules}
 use Rattle.changes.proofs.unchecked.reset_tags.Goals as goal
 
 pub returns : goal.returns

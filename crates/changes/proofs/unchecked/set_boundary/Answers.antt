@@ -2,7 +2,6 @@
 use native.Mathlib.Omega.{arith}
 use Rattle.sheet.proofs.Look.{bounds}
 use Rattle.changes.proofs.Kept.{boundary_lays}
-use borrow.Author.Rules.{rules}
 use Rattle.changes.proofs.unchecked.set_boundary.Goals as goal
 
 pub bounds-boundaries-i : goal.bounds-boundaries-i

@@ -1,5 +1,4 @@
 -- `lookups::unchecked::str_to_char_pos` meets its contract.
-use borrow.Author.Rules.{rules}
 use mathlib.Core.Path.{ap, ◌∙◌}
 use native.Mathlib.Omega.{arith}
 use Rattle.sheet.specs.declared.Number.TheVariants.{Refused}

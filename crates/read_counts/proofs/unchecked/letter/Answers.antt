@@ -1,6 +1,5 @@
 -- `read_counts::unchecked::letter` meets its contract.
 use Rattle.read_counts.specs.Counts.{letters}
-use borrow.Author.Rules.{rules}
 use Rattle.read_counts.proofs.unchecked.letter.Goals as goal
 
 pub returns : goal.returns

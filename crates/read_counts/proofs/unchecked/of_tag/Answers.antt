@@ -1,6 +1,5 @@
 -- `read_counts::unchecked::of_tag` meets its contract.
 use Rattle.read_counts.specs.Counts.{grows}
-use borrow.Author.Rules.{rules}
 use Rattle.read_counts.proofs.unchecked.of_tag.Goals as goal
 
 pub returns-then-k : goal.returns-then-k

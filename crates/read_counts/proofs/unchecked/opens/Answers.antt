@@ -1,6 +1,5 @@
 -- `read_counts::unchecked::opens` meets its contract.
 use Rattle.read_counts.specs.Counts.{opening}
-use borrow.Author.Rules.{rules}
 use Rattle.read_counts.proofs.unchecked.opens.Goals as goal
 
 pub returns : goal.returns

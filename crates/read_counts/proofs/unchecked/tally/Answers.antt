@@ -1,6 +1,5 @@
 -- `read_counts::unchecked::tally` meets its contract.
 use Rattle.read_counts.proofs.Acts.{skip_tally, letter_tally, opens_tally, tag_tally}
-use borrow.Author.Rules.{rules}
 use Rattle.read_counts.proofs.unchecked.tally.Goals as goal
 
 pub returns-in-Skip : goal.returns-in-Skip

@@ -1,12 +1,8 @@
 -- `read_fill::unchecked::fill` meets its contract.
-use mathlib.Core.Path.{◌∙◌}
 use Prim.Native.Nat.{◌-◌}
-use native.Mathlib.Omega.{arith}
-use borrow.Author.Rules.{rules}
 use lib.ListN.{length}
 use Rattle.sheet.specs.Layout.{buffers}
-use Rattle.read_counts.proofs.Spans.{Span}
-use Rattle.read_fill.proofs.Laying.{Laying, lay_start, lay_stands, lay_small, lay_span, lay-some, lay-turning, lay-go, lay_finishing, lay_done, lay_long}
+use Rattle.read_fill.proofs.Laying.{Laying}
 use Rattle.read_fill.proofs.unchecked.fill.Given as goal
 
 abbrev pub invariant-loop-at : goal.invariant-loop-at

@@ -1,7 +1,6 @@
 -- `read_state::Mark::code` meets its contract.
 use Rattle.sentence.specs.Sentence.{code}
 use Rattle.read_state.specs.Flags.{mark_of}
-use borrow.Author.Rules.{rules}
 use Rattle.read_state.proofs.Mark.code.Goals as goal
 
 pub returns-in-None : goal.returns-in-None

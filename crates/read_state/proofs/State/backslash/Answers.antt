@@ -1,6 +1,5 @@
 -- `read_state::State::backslash` meets its contract.
 use Rattle.read_state.proofs.Steps.{handed_back}
-use borrow.Author.Rules.{rules}
 use Rattle.read_state.proofs.State.backslash.Goals as goal
 
 pub returns : goal.returns

@@ -1,5 +1,4 @@
 -- `read_state::State::behind` meets its contract.
-use borrow.Author.Rules.{rules}
 use Rattle.read_state.specs.Flags.{mark_of, stepped}
 use Rattle.sentence.specs.Reading.{ordinary}
 use Rattle.read_state.proofs.State.behind.Goals as goal

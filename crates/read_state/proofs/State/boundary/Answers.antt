@@ -1,5 +1,4 @@
 -- `read_state::State::boundary` meets its contract.
-use borrow.Author.Rules.{rules}
 use Rattle.read_state.specs.Flags.{flags_at, flags, act_in, before_in, stepped}
 use Rattle.sentence.specs.Reading.{opening, step}
 use Rattle.read_state.proofs.Steps.{near_mark}

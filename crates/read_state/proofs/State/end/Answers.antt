@@ -3,7 +3,6 @@ use Rattle.read_state.specs.Flags.{ended}
 use Rattle.sentence.specs.Reading.{ending}
 use Rattle.read_state.proofs.Steps.{finish_place, near_end}
 use Rattle.read_state.proofs.Places.{places}
-use borrow.Author.Rules.{rules}
 use Rattle.read_state.proofs.State.end.Goals as goal
 
 pub returns-then-not-self : goal.returns-then-not-self

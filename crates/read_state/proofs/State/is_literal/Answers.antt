@@ -1,6 +1,5 @@
 -- `read_state::State::is_literal` meets its contract.
 use Rattle.read_state.specs.Flags.{literal}
-use borrow.Author.Rules.{rules}
 use Rattle.read_state.proofs.State.is_literal.Goals as goal
 
 pub returns-in-Raw : goal.returns-in-Raw

@@ -1,5 +1,4 @@
 -- `read_state::State::ordinary` meets its contract.
-use borrow.Author.Rules.{rules}
 use Rattle.read_state.specs.Flags.{mark_of, act_in, before_in, stepped}
 use Rattle.sentence.specs.Reading.{ordinary}
 use Rattle.read_state.proofs.Places.{places}

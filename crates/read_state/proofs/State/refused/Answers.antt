@@ -1,5 +1,4 @@
 -- `read_state::State::refused` meets its contract.
-use borrow.Author.Rules.{rules}
 use Rattle.read_state.specs.Flags.{stepped}
 use Rattle.read_state.proofs.State.refused.Goals as goal
 

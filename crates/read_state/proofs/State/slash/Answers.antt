@@ -2,7 +2,6 @@
 use Rattle.read_state.specs.Flags.{act_in, before_in, stepped}
 use Rattle.read_state.proofs.Steps.{near_slash, far_slash}
 use Rattle.laws.proofs.Tests.{of_call}
-use borrow.Author.Rules.{rules}
 use Rattle.read_state.proofs.State.slash.Goals as goal
 
 pub returns-then-awaits : goal.returns-then-awaits

@@ -2,7 +2,6 @@
 use Rattle.sentence.specs.Reading.{advance}
 use Rattle.read_state.proofs.Steps.{hands_escaped, hands_literal, hands-mark, hands-slash, hands-back, hands_plain}
 use Rattle.laws.proofs.Tests.{tests}
-use borrow.Author.Rules.{rules}
 use Rattle.read_state.proofs.State.step.Goals as goal
 
 pub returns-then-c-eq0 : goal.returns-then-c-eq0

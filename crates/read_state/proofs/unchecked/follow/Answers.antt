@@ -1,6 +1,5 @@
 -- `read_state::unchecked::follow` meets its contract.
 use Rattle.read_state.proofs.Steps.{hands_escaped, hands_literal, hands-mark, hands-slash, hands-back, hands_plain}
-use borrow.Author.Rules.{rules}
 use Rattle.read_state.proofs.unchecked.follow.Goals as goal
 
 pub returns-then-s : goal.returns-then-s

@@ -1,7 +1,5 @@
 -- `read_stores::unchecked::absent` meets its contract.
-use Prim.Native.Nat.{◌-◌}
-use Rattle.read_stores.proofs.Copies.{Absenting, absent_start, absent_more, absent_starts, absent_lengths}
-use borrow.Author.Rules.{rules}
+use Rattle.read_stores.proofs.Copies.{absent_start, absent_more, absent_starts, absent_lengths}
 use Rattle.read_stores.proofs.unchecked.absent.Goals as goal
 
 pub loop-i-init : goal.loop-i-init

@@ -1,7 +1,6 @@
 -- `read_stores::unchecked::absent` meets its contract.
 use Prim.Native.Nat.{◌-◌}
-use Rattle.read_stores.proofs.Copies.{Absenting, absent_start, absent_more, absent_starts, absent_lengths}
-use borrow.Author.Rules.{rules}
+use Rattle.read_stores.proofs.Copies.{Absenting}
 use Rattle.read_stores.proofs.unchecked.absent.Given as goal
 
 abbrev pub invariant-loop-i : goal.invariant-loop-i

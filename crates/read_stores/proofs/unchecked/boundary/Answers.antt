@@ -1,6 +1,5 @@
 -- `read_stores::unchecked::boundary` meets its contract.
 use Rattle.read_stores.proofs.Copies.{later_none, later_fits, later_stored}
-use borrow.Author.Rules.{rules}
 use Rattle.read_stores.proofs.unchecked.boundary.Goals as goal
 
 pub returns-then-n-eq0 : goal.returns-then-n-eq0

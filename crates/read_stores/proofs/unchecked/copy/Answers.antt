@@ -2,7 +2,6 @@
 use Rattle.read_stores.proofs.Copies.{copied_one, copied_two, copied_three, copied_four}
 use lib.ListN.{length-set}
 use native.Mathlib.Omega.{arith}
-use borrow.Author.Rules.{rules}
 use Rattle.read_stores.proofs.unchecked.copy.Goals as goal
 
 pub returns-then-len-eq1 : goal.returns-then-len-eq1

@@ -1,6 +1,5 @@
 -- `read_stores::unchecked::end_cell` meets its contract.
 use Rattle.read_stores.proofs.Copies.{cell_fits, cell_open, next_open, next_closed, kept_none}
-use borrow.Author.Rules.{rules}
 use Rattle.read_stores.proofs.unchecked.end_cell.Goals as goal
 
 pub bounds-cell_starts-at : goal.bounds-cell_starts-at

@@ -2,7 +2,6 @@
 use Rattle.read_stores.proofs.Copies.{numbered_one, numbered_two, numbered_three, numbered_four}
 use lib.ListN.{length-set}
 use native.Mathlib.Omega.{arith}
-use borrow.Author.Rules.{rules}
 use Rattle.read_stores.proofs.unchecked.number.Goals as goal
 
 pub returns-then-len-eq1 : goal.returns-then-len-eq1

@@ -1,6 +1,5 @@
 -- `read_stores::unchecked::place` meets its contract.
 use Rattle.read_stores.proofs.Copies.{spot_none, spot_some, rows_small, spot_small}
-use borrow.Author.Rules.{rules}
 use Rattle.read_stores.proofs.unchecked.place.Goals as goal
 
 pub returns-then-n-eq0 : goal.returns-then-n-eq0

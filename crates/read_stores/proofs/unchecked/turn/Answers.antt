@@ -2,7 +2,6 @@
 use Rattle.read_stores.proofs.Turns.{LetterRoom, TagRoom, letter_room, letter_stored, skip_stored, opens_room, opens_stored, tag_room, tag_stored}
 use Rattle.sheet.specs.Layout.{buffers}
 use native.Mathlib.Omega.{arith}
-use borrow.Author.Rules.{rules}
 use Rattle.read_stores.proofs.unchecked.turn.Goals as goal
 use Rattle.read_stores.proofs.unchecked.turn.Goals.{After-copy-arg-1, After-keep-arg-1}
 

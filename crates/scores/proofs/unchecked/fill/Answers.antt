@@ -1,13 +1,8 @@
 -- `scores::unchecked::fill` meets its contract.
-use Prim.Native.Nat.{◌-◌, ◌≤◌}
-use mathlib.Core.List.{map}
 use borrow.Author.Rules.{rules}
-use lib.ListN.{length, drop}
-use Rattle.laws.specs.Put.{Filling, fills, fill_more}
+use Rattle.laws.specs.Put.{fills, fill_more}
 use native.Mathlib.Omega.{arith}
 use Rattle.scores.proofs.Laws.{decides, decide_step}
-use Rattle.sentence.specs.Sentence.{code}
-use Rattle.sentence.specs.Writing.{decision}
 use Rattle.scores.proofs.unchecked.fill.Goals as goal
 
 pub loop-i-init : goal.loop-i-init

@@ -2,7 +2,6 @@
 use native.Mathlib.Omega.{arith}
 use Rattle.sheet.proofs.Look.{bounds}
 use Rattle.scores.proofs.Laws.{scores_lay}
-use borrow.Author.Rules.{rules}
 use Rattle.scores.proofs.unchecked.predict.Goals as goal
 
 pub fill-requires : goal.fill-requires

@@ -1,8 +1,6 @@
 -- `tokens::unchecked::count_tokens` meets its contract. The loop's invariant: the tokens passed and those onward are all.
 use Prim.Native.Nat.{◌-◌}
-use native.Mathlib.Omega.{arith}
-use borrow.Author.Rules.{rules}
-use Rattle.tokens.proofs.Cursor.{Following, following, Counted, counts}
+use Rattle.tokens.proofs.Cursor.{Counted}
 use Rattle.tokens.proofs.unchecked.count_tokens.Given as goal
 
 abbrev pub invariant-loop-t : goal.invariant-loop-t

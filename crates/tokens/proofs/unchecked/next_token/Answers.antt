@@ -1,8 +1,5 @@
 -- `tokens::unchecked::next_token` meets its contract. The loop's invariant: the scan so far leaves the answer that the scan from p has.
-use Prim.Native.Nat.{◌-◌}
-use borrow.Author.Rules.{rules}
-use native.Mathlib.Omega.{arith}
-use Rattle.tokens.proofs.Cursor.{Scanning, scans}
+use Rattle.tokens.proofs.Cursor.{scans}
 use Rattle.tokens.proofs.unchecked.next_token.Goals as goal
 
 pub returns-then-n-p : goal.returns-then-n-p

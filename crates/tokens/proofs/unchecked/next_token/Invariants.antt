@@ -1,8 +1,6 @@
 -- `tokens::unchecked::next_token` meets its contract. The loop's invariant: the scan so far leaves the answer that the scan from p has.
 use Prim.Native.Nat.{◌-◌}
-use borrow.Author.Rules.{rules}
-use native.Mathlib.Omega.{arith}
-use Rattle.tokens.proofs.Cursor.{Scanning, scans}
+use Rattle.tokens.proofs.Cursor.{Scanning}
 use Rattle.tokens.proofs.unchecked.next_token.Given as goal
 
 abbrev pub invariant-loop-end : goal.invariant-loop-end

@@ -1,6 +1,5 @@
 -- `tokens::unchecked::token_from` meets its contract: what the step answers is read as a token.
 use Rattle.tokens.proofs.Answers.{of_step, of_end}
-use borrow.Author.Rules.{rules}
 use Rattle.tokens.proofs.unchecked.token_from.Goals as goal
 
 pub returns-in-Serves : goal.returns-in-Serves

@@ -1,16 +1,9 @@
 -- What the ranges from the i-th on say of a code point is what all of them say.
-use mathlib.Core.Path.{◌≡◌, ◌∙◌, sym, ap}
-use mathlib.Core.Bool.{true, false, ◌&&◌}
+use mathlib.Core.Path.{◌≡◌}
 use mathlib.Core.List.{List}
-use Prim.Native.Nat.{ℕ, ◌≤◌, ◌<◌, ◌-◌, ◌+◌}
-use native.Mathlib.Numerals.{add-one}
-use native.Mathlib.Omega.{arith}
-use lib.Dec.{leb, lit≤}
-use lib.Seq.{drop-cons}
-use lib.ListN.{length, drop, get_or, drop_of_length-le}
-use borrow.Author.Rules.{rules}
-use Rattle.laws.specs.If.{when◌then◌else◌, if_true, if_false}
-use Rattle.types.specs.TypeOf.{row, find, ranges, type_of}
+use Prim.Native.Nat.{ℕ, ◌≤◌, ◌-◌}
+use lib.ListN.{length, drop}
+use Rattle.types.specs.TypeOf.{find, type_of}
 use Rattle.types.specs.declared.ranges.Row.{Row}
 use Rattle.types.proofs.ranges.scan.Given as goal
 

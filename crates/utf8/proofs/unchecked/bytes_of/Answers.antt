@@ -1,7 +1,6 @@
 -- `utf8::unchecked::bytes_of` meets its contract.
 use Rattle.laws.proofs.Tests.{tests}
 use Rattle.utf8.specs.Utf8.{filled, encode}
-use borrow.Author.Rules.{rules}
 use Rattle.utf8.proofs.unchecked.bytes_of.Goals as goal
 
 pub returns-then-v-le127 : goal.returns-then-v-le127

@@ -3,7 +3,6 @@ use Rattle.utf8.proofs.Lead.{Spans, lead_within, lead_one, lead_two, lead_three,
 use lib.ListN.{get_or}
 use native.Mathlib.Omega.{arith}
 use Prim.Native.Nat.{◌+◌, ◌*◌, ◌%◌}
-use borrow.Author.Rules.{rules}
 use Rattle.utf8.proofs.unchecked.char_at.Goals as goal
 use Rattle.utf8.proofs.unchecked.char_at.Goals.{Else-a-le239, Then-a-le127, Then-a-le223, Then-a-le239}
 

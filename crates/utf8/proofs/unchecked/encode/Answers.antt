@@ -1,6 +1,5 @@
 -- `utf8::unchecked::encode` meets its contract.
 use Rattle.utf8.proofs.Codec.{scalar_small}
-use borrow.Author.Rules.{rules}
 use Rattle.utf8.proofs.unchecked.encode.Goals as goal
 
 pub bytes_of-requires : goal.bytes_of-requires

@@ -1,9 +1,7 @@
 -- `write_escape::unchecked::copy` meets its contract. The invariant: what is left to write is the slice from i on.
-use Prim.Native.Nat.{◌-◌, ◌≤◌}
-use lib.ListN.{take, drop}
 use borrow.Author.Rules.{rules}
 use Rattle.laws.specs.Put.{left_step, left_none}
-use Rattle.write_escape.specs.Wrote.{Writing, writes}
+use Rattle.write_escape.specs.Wrote.{writes}
 use Rattle.write_escape.proofs.Bytes.{copy_room, three_fits, three_room, three_is}
 use Rattle.write_escape.proofs.unchecked.copy.Goals as goal
 

@@ -1,11 +1,9 @@
 -- `write_escape::unchecked::copy_escaped` meets its contract. The invariant: what is left to write is the slice from i on, escaped.
 use Prim.Native.Nat.{◌-◌, ◌≤◌}
 use lib.ListN.{take, drop}
-use borrow.Author.Rules.{rules}
 use Rattle.sentence.specs.Writing.{escape}
 use Rattle.write_escape.specs.Escape.{in_form}
-use Rattle.write_escape.specs.Wrote.{Writing, writes}
-use Rattle.write_escape.proofs.Bytes.{escapes, escape_room, escape_room_2}
+use Rattle.write_escape.specs.Wrote.{Writing}
 use Rattle.write_escape.proofs.unchecked.copy_escaped.Given as goal
 
 abbrev pub invariant-loop-i : goal.invariant-loop-i

@@ -1,10 +1,7 @@
 -- `write_escape::unchecked::escaped_len` meets its contract.
 -- The invariant: with what the slice from i on takes, n is the whole; a byte passed takes at most two.
-use Prim.Native.Nat.{◌-◌, ◌≤◌}
-use lib.ListN.{take, drop}
 use borrow.Author.Rules.{rules}
-use Rattle.write_escape.specs.Escape.{in_form}
-use Rattle.write_escape.proofs.Bytes.{Counting, counts}
+use Rattle.write_escape.proofs.Bytes.{counts}
 use Rattle.write_escape.proofs.unchecked.escaped_len.Goals as goal
 
 pub loop-i-init : goal.loop-i-init

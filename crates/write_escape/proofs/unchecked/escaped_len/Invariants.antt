@@ -2,9 +2,8 @@
 -- The invariant: with what the slice from i on takes, n is the whole; a byte passed takes at most two.
 use Prim.Native.Nat.{◌-◌, ◌≤◌}
 use lib.ListN.{take, drop}
-use borrow.Author.Rules.{rules}
 use Rattle.write_escape.specs.Escape.{in_form}
-use Rattle.write_escape.proofs.Bytes.{Counting, counts}
+use Rattle.write_escape.proofs.Bytes.{Counting}
 use Rattle.write_escape.proofs.unchecked.escaped_len.Given as goal
 
 abbrev pub invariant-loop-i : goal.invariant-loop-i

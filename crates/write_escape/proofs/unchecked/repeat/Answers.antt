@@ -1,7 +1,7 @@
 -- `write_escape::unchecked::repeat` meets its contract. The invariant: the byte is left to write as often as `left` says.
-use lib.ListN.{replicate, length-replicate}
+use lib.ListN.{length-replicate}
 use borrow.Author.Rules.{rules}
-use Rattle.write_escape.specs.Wrote.{Writing, write_start, writes}
+use Rattle.write_escape.specs.Wrote.{write_start, writes}
 use Rattle.write_escape.proofs.Bytes.{repeats, repeat_room}
 use Rattle.write_escape.proofs.unchecked.repeat.Goals as goal
 

@@ -1,8 +1,6 @@
 -- `write_escape::unchecked::repeat` meets its contract. The invariant: the byte is left to write as often as `left` says.
-use lib.ListN.{replicate, length-replicate}
-use borrow.Author.Rules.{rules}
-use Rattle.write_escape.specs.Wrote.{Writing, write_start, writes}
-use Rattle.write_escape.proofs.Bytes.{repeats, repeat_room}
+use lib.ListN.{replicate}
+use Rattle.write_escape.specs.Wrote.{Writing}
 use Rattle.write_escape.proofs.unchecked.repeat.Given as goal
 
 abbrev pub invariant-loop-left : goal.invariant-loop-left

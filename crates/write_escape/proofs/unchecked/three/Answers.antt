@@ -1,7 +1,6 @@
 -- `write_escape::unchecked::three` meets its contract.
 use lib.ListN.{length-set}
 use native.Mathlib.Omega.{arith}
-use borrow.Author.Rules.{rules}
 use Rattle.write_escape.proofs.Bytes.{wrote_three}
 use Rattle.write_escape.proofs.unchecked.three.Goals as goal
 

@@ -1,6 +1,5 @@
 -- `write_items::unchecked::bytes_to` meets its contract.
 use Rattle.write_items.proofs.Cells.{bytes_none, bytes_behind}
-use borrow.Author.Rules.{rules}
 use Rattle.write_items.proofs.unchecked.bytes_to.Goals as goal
 
 pub returns-then-k-eq0 : goal.returns-then-k-eq0

@@ -4,7 +4,6 @@ use Rattle.sentence.specs.declared.Form.TheVariants.{Partial as partial}
 use Rattle.write_escape.specs.Wrote.{wrote_both}
 use Rattle.write_items.specs.Items.{row_at, row_line, text_at}
 use Rattle.write_items.proofs.Tags.{first_fits, then_fits}
-use borrow.Author.Rules.{rules}
 use Rattle.write_items.proofs.unchecked.char_apart.Goals as goal
 
 pub text_into-n-requires : goal.text_into-n-requires

@@ -1,7 +1,6 @@
 -- `write_items::unchecked::char_into` meets its contract.
 use Prim.Native.Nat.{◌+◌}
 use Rattle.write_items.proofs.Tags.{text-first, text-then, text_both}
-use borrow.Author.Rules.{rules}
 use Rattle.write_items.proofs.unchecked.char_into.Goals as goal
 
 pub copy-n-requires : goal.copy-n-requires

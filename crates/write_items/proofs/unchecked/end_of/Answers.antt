@@ -1,6 +1,5 @@
 -- `write_items::unchecked::end_of` meets its contract.
 use native.Mathlib.Omega.{arith}
-use borrow.Author.Rules.{rules}
 use Rattle.write_items.proofs.unchecked.end_of.Goals as goal
 
 pub overflow_cast-start : goal.overflow_cast-start

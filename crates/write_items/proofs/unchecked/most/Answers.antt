@@ -3,7 +3,6 @@ use mathlib.Core.Path.{refl}
 use native.Mathlib.Omega.{arith}
 use Rattle.write_items.specs.Items.{most_of}
 use Rattle.write_items.proofs.Room.{product_few}
-use borrow.Author.Rules.{rules}
 use Rattle.write_items.proofs.unchecked.most.Goals as goal
 
 pub overflow_mul-result-2 : goal.overflow_mul-result-2

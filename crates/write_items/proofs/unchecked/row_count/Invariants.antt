@@ -1,6 +1,5 @@
 -- `write_items::unchecked::row_count` meets its contract. The invariant: the last listed cell is among the first n.
-use Rattle.write_items.proofs.Cells.{count_fits, count_empty, count_none, Looking, looking}
-use borrow.Author.Rules.{rules}
+use Rattle.write_items.proofs.Cells.{Looking}
 use Rattle.write_items.proofs.unchecked.row_count.Given as goal
 
 abbrev pub invariant-loop-n : goal.invariant-loop-n

@@ -1,7 +1,6 @@
 -- `write_items::unchecked::row_into` meets its contract.
 use Rattle.write_items.proofs.Cells.{count_fits, count_end}
 use Rattle.write_items.proofs.Tags.{row-tags, row_rest, row-padded, row-full}
-use borrow.Author.Rules.{rules}
 use Rattle.write_items.proofs.unchecked.row_into.Goals as goal
 
 pub row_count-listed-requires : goal.row_count-listed-requires

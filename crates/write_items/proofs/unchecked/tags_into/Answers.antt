@@ -1,9 +1,5 @@
 -- `write_items::unchecked::tags_into` meets its contract. The invariant: the tags from the j-th cell on are left to write.
-use Prim.Native.Nat.{◌-◌}
-use Rattle.sentence.specs.Writing.{write_tags}
-use Rattle.write_escape.specs.Escape.{in_form}
-use Rattle.write_items.specs.Items.{cell_tags}
-use Rattle.write_items.proofs.Tags.{Tagging, tag-part, tagging}
+use Rattle.write_items.proofs.Tags.{tag-part, tagging}
 use borrow.Author.Rules.{rules}
 use Rattle.write_items.proofs.unchecked.tags_into.Goals as goal
 

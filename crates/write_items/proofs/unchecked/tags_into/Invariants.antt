@@ -3,8 +3,7 @@ use Prim.Native.Nat.{◌-◌}
 use Rattle.sentence.specs.Writing.{write_tags}
 use Rattle.write_escape.specs.Escape.{in_form}
 use Rattle.write_items.specs.Items.{cell_tags}
-use Rattle.write_items.proofs.Tags.{Tagging, tag-part, tagging}
-use borrow.Author.Rules.{rules}
+use Rattle.write_items.proofs.Tags.{Tagging}
 use Rattle.write_items.proofs.unchecked.tags_into.Given as goal
 
 abbrev pub invariant-loop-j : goal.invariant-loop-j

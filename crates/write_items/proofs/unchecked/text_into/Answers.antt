@@ -1,7 +1,6 @@
 -- `write_items::unchecked::text_into` meets its contract.
 use Prim.Native.Nat.{◌+◌}
 use Rattle.write_items.proofs.Tags.{text_asks, text_wrote}
-use borrow.Author.Rules.{rules}
 use Rattle.write_items.proofs.unchecked.text_into.Goals as goal
 
 pub copy-requires : goal.copy-requires

@@ -2,7 +2,6 @@
 use Rattle.sentence.specs.declared.Form.TheVariants.{Tokenized as tokenized}
 use Rattle.sentence.specs.Writing.{escape}
 use Rattle.write_items.proofs.Tags.{text-first, text-then, text_both}
-use borrow.Author.Rules.{rules}
 use Rattle.write_items.proofs.unchecked.token_into.Goals as goal
 
 pub copy_escaped-n-requires : goal.copy_escaped-n-requires

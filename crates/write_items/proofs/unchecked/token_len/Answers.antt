@@ -1,6 +1,5 @@
 -- `write_items::unchecked::token_len` meets its contract.
 use Rattle.write_items.proofs.Lengths.{token_row, token_room, token_long}
-use borrow.Author.Rules.{rules}
 use Rattle.write_items.proofs.unchecked.token_len.Goals as goal
 
 pub row_len-requires : goal.row_len-requires

@@ -2,7 +2,6 @@
 use native.Mathlib.Omega.{arith}
 use Rattle.write_escape.specs.Wrote.{wrote_both}
 use Rattle.write_partial.proofs.Loops.{bare_text, bare_columns}
-use borrow.Author.Rules.{rules}
 use Rattle.write_partial.proofs.unchecked.bare_into.Goals as goal
 
 pub text_into-n-requires : goal.text_into-n-requires

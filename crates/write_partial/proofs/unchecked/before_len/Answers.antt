@@ -3,7 +3,6 @@ use mathlib.Core.Path.{ap}
 use native.Mathlib.Omega.{arith}
 use lib.ListN.{length}
 use Rattle.write_partial.proofs.Asks.{before_none, before_facts}
-use borrow.Author.Rules.{rules}
 use Rattle.write_partial.proofs.unchecked.before_len.Goals as goal
 
 pub returns-then-start-eq0 : goal.returns-then-start-eq0

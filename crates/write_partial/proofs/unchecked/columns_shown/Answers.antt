@@ -1,9 +1,6 @@
 -- `write_partial::unchecked::columns_shown` meets its contract. The invariant: the longest row is the longest so far or one from the i-th on.
-use Prim.Native.Nat.{◌-◌}
 use borrow.Author.Rules.{rules}
-use borrow.Author.Tests.{ltb-false}
-use Rattle.sheet.specs.Layout.{buffers}
-use Rattle.write_partial.proofs.Widest.{Seeking, seek_start, seek_asks, seek-more, seek-less, seek_done, seek_full}
+use Rattle.write_partial.proofs.Widest.{seek_start, seek_asks, seek-more, seek-less, seek_done, seek_full}
 use Rattle.write_partial.proofs.unchecked.columns_shown.Goals as goal
 
 pub loop-i-init : goal.loop-i-init

@@ -1,9 +1,7 @@
 -- `write_partial::unchecked::columns_shown` meets its contract. The invariant: the longest row is the longest so far or one from the i-th on.
 use Prim.Native.Nat.{◌-◌}
-use borrow.Author.Rules.{rules}
-use borrow.Author.Tests.{ltb-false}
 use Rattle.sheet.specs.Layout.{buffers}
-use Rattle.write_partial.proofs.Widest.{Seeking, seek_start, seek_asks, seek-more, seek-less, seek_done, seek_full}
+use Rattle.write_partial.proofs.Widest.{Seeking}
 use Rattle.write_partial.proofs.unchecked.columns_shown.Given as goal
 
 abbrev pub invariant-loop-i : goal.invariant-loop-i

@@ -1,7 +1,5 @@
 -- `write_partial::unchecked::count_slashes` meets its contract. The invariant: the slashes from the i-th character on are left to count.
-use Prim.Native.Nat.{◌-◌}
-use Rattle.write_partial.specs.Line.{slashes_of}
-use Rattle.write_partial.proofs.Loops.{Slashing, slash_start, slash-reads, slash-asks, slash-word-fits, slash-word, slash-other-fits, slash-other, slash_done}
+use Rattle.write_partial.proofs.Loops.{slash_start, slash-reads, slash-asks, slash-word-fits, slash-word, slash-other-fits, slash-other, slash_done}
 use borrow.Author.Rules.{rules}
 use Rattle.write_partial.proofs.unchecked.count_slashes.Goals as goal
 

@@ -1,9 +1,7 @@
 -- `write_partial::unchecked::covered_into` meets its contract. The invariant: the stretch from the i-th character on is left to write.
 use Prim.Native.Nat.{◌-◌}
-use native.Mathlib.Omega.{arith}
 use Rattle.write_partial.specs.Line.{covered_of}
-use Rattle.write_partial.proofs.Loops.{Covering, cover_start, cover-asks, cover-byte, cover-inside, cover-next, cover_done}
-use borrow.Author.Rules.{rules}
+use Rattle.write_partial.proofs.Loops.{Covering}
 use Rattle.write_partial.proofs.unchecked.covered_into.Given as goal
 
 abbrev pub invariant-loop-i : goal.invariant-loop-i

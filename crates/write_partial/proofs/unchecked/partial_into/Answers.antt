@@ -1,7 +1,6 @@
 -- `write_partial::unchecked::partial_into` meets its contract.
 use native.Mathlib.Omega.{arith}
 use Rattle.write_partial.proofs.Shown.{whole_room, whole_lined}
-use borrow.Author.Rules.{rules}
 use Rattle.write_partial.proofs.unchecked.partial_into.Goals as goal
 
 pub shown_into-requires : goal.shown_into-requires

@@ -1,7 +1,6 @@
 -- `write_partial::unchecked::rest_into` meets its contract.
 use Rattle.write_escape.specs.Wrote.{wrote_both}
 use Rattle.write_partial.proofs.Asks.{rest-first, rest_then}
-use borrow.Author.Rules.{rules}
 use Rattle.write_partial.proofs.unchecked.rest_into.Goals as goal
 
 pub stretch_into-n-requires : goal.stretch_into-n-requires

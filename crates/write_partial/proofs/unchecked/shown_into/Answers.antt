@@ -2,7 +2,6 @@
 use native.Mathlib.Omega.{arith}
 use Rattle.sheet.proofs.Look.{bounds}
 use Rattle.write_partial.proofs.Whole.{whole-asks, whole-done, before-asks, end-covers, end-last, end-done, range-covers, range-rest, range-done}
-use borrow.Author.Rules.{rules}
 use Rattle.write_partial.proofs.unchecked.shown_into.Goals as goal
 
 pub overflow_sub-last : goal.overflow_sub-last

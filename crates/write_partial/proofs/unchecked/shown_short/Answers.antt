@@ -1,7 +1,6 @@
 -- `write_partial::unchecked::shown_short` meets its contract.
 use Rattle.write_items.proofs.Room.{limited, short_most, short_enough, short_needed}
 use Rattle.write_partial.proofs.Count.{line_most}
-use borrow.Author.Rules.{rules}
 use Rattle.write_partial.proofs.unchecked.shown_short.Goals as goal
 
 pub most-requires : goal.most-requires

@@ -1,8 +1,6 @@
 -- `write_partial::unchecked::stretch_into` meets its contract. The invariant: the stretch from the i-th character on is left to write.
-use Prim.Native.Nat.{◌-◌}
 use native.Mathlib.Omega.{arith}
-use Rattle.write_partial.specs.Line.{stretch_of}
-use Rattle.write_partial.proofs.Loops.{Stretching, stretch_start, stretch_reads, stretch-asks, stretch-byte, stretch-inside, stretch-next, stretch_done}
+use Rattle.write_partial.proofs.Loops.{stretch_start, stretch_reads, stretch-asks, stretch-byte, stretch-inside, stretch-next, stretch_done}
 use borrow.Author.Rules.{rules}
 use Rattle.write_partial.proofs.unchecked.stretch_into.Goals as goal
 

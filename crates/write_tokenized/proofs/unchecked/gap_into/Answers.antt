@@ -2,7 +2,6 @@
 use mathlib.Core.Path.{refl}
 use native.Mathlib.Omega.{arith}
 use Rattle.write_tokenized.specs.Gaps.{gap}
-use borrow.Author.Rules.{rules}
 use Rattle.write_tokenized.proofs.unchecked.gap_into.Goals as goal
 
 pub bounds-out-at : goal.bounds-out-at

@@ -1,9 +1,7 @@
 -- `write_tokenized::unchecked::tokenized_into` meets its contract. The invariant: the tokens from the cursor on are left to write.
 use Prim.Native.Nat.{◌-◌}
-use native.Mathlib.Omega.{arith}
-use borrow.Author.Rules.{rules}
 use Rattle.sheet.specs.Layout.{buffers}
-use Rattle.write_tokenized.proofs.Turns.{Comes, comes, Tokening, token_start, gap-asks, token-asks, token-next, token_done}
+use Rattle.write_tokenized.proofs.Turns.{Tokening}
 use Rattle.write_tokenized.proofs.unchecked.tokenized_into.Given as goal
 
 abbrev pub invariant-loop-t : goal.invariant-loop-t

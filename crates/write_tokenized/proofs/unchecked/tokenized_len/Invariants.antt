@@ -1,9 +1,7 @@
 -- `write_tokenized::unchecked::tokenized_len` meets its contract. The invariant: with the tokens from the cursor on, the sum is the whole.
 use Prim.Native.Nat.{◌-◌}
-use native.Mathlib.Omega.{arith}
-use borrow.Author.Rules.{rules}
 use Rattle.sheet.specs.Layout.{buffers}
-use Rattle.write_tokenized.proofs.Turns.{Comes, comes, Summing, sum_start, sum-asks, sum-gap, sum-few, sum-next, sum_done}
+use Rattle.write_tokenized.proofs.Turns.{Summing}
 use Rattle.write_tokenized.proofs.unchecked.tokenized_len.Given as goal
 
 abbrev pub invariant-loop-t : goal.invariant-loop-t

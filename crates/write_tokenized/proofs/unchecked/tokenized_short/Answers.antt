@@ -1,7 +1,6 @@
 -- `write_tokenized::unchecked::tokenized_short` meets its contract.
 use Rattle.write_items.proofs.Room.{limited, short_most, short_enough, short_needed}
 use Rattle.write_tokenized.proofs.Most.{line_most}
-use borrow.Author.Rules.{rules}
 use Rattle.write_tokenized.proofs.unchecked.tokenized_short.Goals as goal
 
 pub most-requires : goal.most-requires

@@ -1,6 +1,5 @@
 -- `convert_buffers::unchecked::writing::write_as` meets its contract.
 use Rattle.convert_buffers.proofs.Written.{as_raw, as_named}
-use borrow.Author.Rules.{rules}
 use Rattle.convert_buffers.proofs.unchecked.writing.write_as.Goals as goal
 
 pub returns-in-Raw : goal.returns-in-Raw

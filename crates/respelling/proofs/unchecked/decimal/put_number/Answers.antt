@@ -4,7 +4,6 @@ use native.Mathlib.Omega.{arith}
 use lib.ListN.{length}
 use Rattle.respelling.specs.Decimal.{decimal}
 use Rattle.respelling.proofs.Digits.{decimal_short, put_end}
-use borrow.Author.Rules.{rules}
 use Rattle.respelling.proofs.unchecked.decimal.put_number.Goals as goal
 use Rattle.respelling.proofs.unchecked.decimal.put_number.Goals.{After-put_decimal-arg-1}
 

@@ -2,7 +2,6 @@
 use Prim.Native.Nat.{◌+◌, ◌-◌}
 use native.Mathlib.Omega.{arith}
 use Rattle.respelling.proofs.Answers.{into}
-use borrow.Author.Rules.{rules}
 use Rattle.respelling.proofs.unchecked.line.convert_into.Goals as goal
 
 pub returns : goal.returns

@@ -1,5 +1,4 @@
 -- `respelling::unchecked::run::after_read` meets its contract.
-use borrow.Author.Rules.{rules}
 use Rattle.respelling.proofs.Calls.{read_failed, read_moved}
 use Rattle.respelling.proofs.unchecked.run.after_read.Goals as goal
 

@@ -1,5 +1,4 @@
 -- `respelling::unchecked::run::after_write` meets its contract.
-use borrow.Author.Rules.{rules}
 use Rattle.respelling.proofs.Calls.{write_failed, write_moved}
 use Rattle.respelling.proofs.unchecked.run.after_write.Goals as goal
 

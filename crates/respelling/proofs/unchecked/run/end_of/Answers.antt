@@ -1,5 +1,4 @@
 -- `respelling::unchecked::run::end_of` meets its contract.
-use borrow.Author.Rules.{rules}
 use Rattle.respelling.proofs.Calls.{end_used, end_cut, end_kept}
 use Rattle.respelling.proofs.unchecked.run.end_of.Goals as goal
 

@@ -1,7 +1,6 @@
 -- `respelling::unchecked::run::to_front` meets its contract. The invariant: the bytes from i on are left to move, and still stand behind n.
 use Prim.Native.Nat.{◌-◌}
-use borrow.Author.Rules.{rules}
-use Rattle.respelling.proofs.Keeps.{Keeping, keep_start, keep-more, keep-done}
+use Rattle.respelling.proofs.Keeps.{Keeping}
 use Rattle.respelling.proofs.unchecked.run.to_front.Given as goal
 
 abbrev pub invariant-loop-i : goal.invariant-loop-i

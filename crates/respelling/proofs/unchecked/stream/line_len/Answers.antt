@@ -1,8 +1,5 @@
 -- `respelling::unchecked::stream::line_len` meets its contract. The invariant: no LF stands before i.
-use Prim.Native.Nat.{◌-◌}
-use borrow.Author.Rules.{rules}
-use lib.ListN.{length}
-use Rattle.respelling.proofs.Scan.{Scanning, scan_start, scan_feed, scan_more, scan_end}
+use Rattle.respelling.proofs.Scan.{scan_start, scan_feed, scan_more, scan_end}
 use Rattle.respelling.proofs.unchecked.stream.line_len.Goals as goal
 
 pub loop-i-init : goal.loop-i-init

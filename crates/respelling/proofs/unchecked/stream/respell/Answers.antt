@@ -1,10 +1,10 @@
 -- `respelling::unchecked::stream::respell` meets its contract.
 -- The invariant: what is used and written so far, with what is still to be done, is the whole turn.
-use Prim.Native.Nat.{◌-◌, ◌+◌, ◌≤◌}
+use Prim.Native.Nat.{◌+◌, ◌≤◌}
 use native.Mathlib.Omega.{arith}
 use borrow.Author.Rules.{rules}
 use lib.ListN.{length}
-use Rattle.respelling.proofs.Turns.{Going, go_start, step_ends, go_done, go_more}
+use Rattle.respelling.proofs.Turns.{go_start, step_ends, go_done, go_more}
 use Rattle.respelling.proofs.unchecked.stream.respell.Goals as goal
 use Rattle.respelling.proofs.unchecked.stream.respell.Goals.{After-step-t}
 

@@ -1,10 +1,8 @@
 -- `respelling::unchecked::stream::respell` meets its contract.
 -- The invariant: what is used and written so far, with what is still to be done, is the whole turn.
-use Prim.Native.Nat.{◌-◌, ◌+◌, ◌≤◌}
-use native.Mathlib.Omega.{arith}
-use borrow.Author.Rules.{rules}
+use Prim.Native.Nat.{◌-◌}
 use lib.ListN.{length}
-use Rattle.respelling.proofs.Turns.{Going, go_start, step_ends, go_done, go_more}
+use Rattle.respelling.proofs.Turns.{Going}
 use Rattle.respelling.proofs.unchecked.stream.respell.Given as goal
 
 abbrev pub invariant-loop-last : goal.invariant-loop-last

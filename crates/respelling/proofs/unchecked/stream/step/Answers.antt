@@ -2,7 +2,6 @@
 use native.Mathlib.Omega.{arith}
 use lib.ListN.{length-take}
 use Rattle.respelling.proofs.Steps.{step_full, step_cut, step-last, step_waits}
-use borrow.Author.Rules.{rules}
 use Rattle.respelling.proofs.unchecked.stream.step.Goals as goal
 
 pub returns-then-out-at-lt8194 : goal.returns-then-out-at-lt8194
