@@ -59,11 +59,12 @@ fn write_from(rt: &impl Eprint, to: &mut impl Write, bytes: &[u8]) -> Call
     ensures { result.moved ≤ length bytes.now }
 {
     match to.write(bytes) {
-        Ok(0) => {
-            say_output(rt, ErrorKind::WriteZero.into());
-            respelling::unchecked::write_told(0, 0, 0)
+        Ok(moved) => {
+            if moved == 0 {
+                say_output(rt, ErrorKind::WriteZero.into());
+            }
+            respelling::unchecked::write_told(moved as isize, moved, 0)
         }
-        Ok(moved) => respelling::unchecked::write_told(moved as isize, moved, 0),
         Err(why) => {
             let call = respelling::unchecked::write_told(-1, 0, number_of(why));
             if !call.again {

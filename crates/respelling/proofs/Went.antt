@@ -153,21 +153,19 @@ module _ (at : ℕ) (d e : List ℕ) where
   abbrev after_call : List ℕ
   after_call = take at d ++ (e ++ drop (length d - at) (drop at d))
 
-  pub behind : {n : ℕ} → at ≤ length d → length e ≡ length (take (length d - at) (drop at d)) → n ≤ length (take (length after_call - at) (drop at after_call))
-      → Behind at d n after_call
-  behind {n} h l k =
+  pub behind : {n : ℕ} → at ≤ length d → n ≤ length e → Behind at d n after_call
+  behind {n} h k =
       let z : length (take at d) ≡ at = length-take-le at d h in
       let a : length after_call ≡ at + (length e + length (drop (length d - at) (drop at d)))
       = length-append (take at d) (e ++ drop (length d - at) (drop at d)) ∙ rw (z, length-append e (drop (length d - at) (drop at d))) refl in
       record {
         front = ap (λ m. take m after_call) (sym z) ∙ take-append_seam (take at d) _;
-        within = omega (arith, a, length-take (length after_call - at) (drop at after_call), length-drop at after_call);
+        within = omega (arith, a);
       }
 
-  pub behind_told : (got : ℤ) (n : ℕ) (b : ℤ) {c : Call} → c ≡ read_told got n b → at ≤ length d → length e ≡ length (take (length d - at) (drop at d))
-      → n ≤ length (take (length after_call - at) (drop at after_call)) → Behind at d c.moved after_call
+  pub behind_told : (got : ℤ) (n : ℕ) (b : ℤ) {c : Call} → c ≡ read_told got n b → at ≤ length d → n ≤ length e → Behind at d c.moved after_call
   unfolding read_told
-  behind_told got n b q h l k = rw q (behind h l k)
+  behind_told got n b q h k = rw q (behind h k)
 
 pub write_told_lem : (got : ℤ) (n : ℕ) (b : ℤ) {c : Call} {m : ℕ} → c ≡ write_told got n b → n ≤ m → c.moved ≤ m
 unfolding write_told
