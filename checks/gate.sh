@@ -203,7 +203,7 @@ without=rustc installs=yes ends 'the host without a compiler' 1 'nothing was run
 ends 'the host without the sources' 1 $'VAPORETTO_SRC to the folder vaporetto/src of a checkout)\n0 passed, 1 failed' VAPORETTO_SRC="$work/none" bash "$here/host/whole.sh"
 
 # The words of the host's scripts, and what they cannot do: status 2, and a line that says so.
-for name in build check-test count example interrupted library link loader record sizes whole withhold; do
+for name in build check-test count example interrupted library link loader native record sizes whole withhold; do
     ends "$name with an unknown word" 2 "host/$name.sh: there is no '--more'" bash "$here/host/$name.sh" --more
     ends "the help of $name" 0 'Status 0: ' bash "$here/host/$name.sh" --help
 done
@@ -267,6 +267,10 @@ ends 'sizes where rt fails' 2 $'a word on the library\ncrate one: modules loaded
 ends 'sizes on another machine' 2 'this is riscv64' MACHINE=riscv64 "$@"
 ends 'sizes with a folder that has no library' 2 "there is no libexports.a in $work/none" "$@" "$work/none"
 ends 'sizes with a word too many' 2 "there is no 'more'" "$@" "$work/none" more
+set -- bash "$here/host/native.sh"
+ends 'native on an x86-64 machine' 2 'this is for an Arm machine, and this is x86_64: on x86-64 host/both.sh bench has no emulator' "$@"
+without=rt ends 'native without rt' 2 "this is missing: rt, the kit's command" MACHINE=aarch64 "$@"
+ends 'native on an Arm machine' 2 'this is missing: a kit for Arm machines' MACHINE=aarch64 "$@"
 set -- bash "$here/host/count.sh"
 stand_in "$work/bin/cc" <<<'exit 0'
 ends 'count with a program that cannot be run' 2 'the type of each character, a call for each, notes P: the program failed with status 127' "$@"
