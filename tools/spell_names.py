@@ -44,10 +44,11 @@ TABLE = {
     "update-leaves": "update_leaves_lem",
     "write-told": "write_told_lem",
     "of-tag": "of_tag_lem",
+    "act-of": "act_of_lem",
     "tagEnds": "tag_ends_of",
 }
 
-DECLARED = re.compile(r"^( *)((?:(?:pub|abbrev|unfoldable|opaque|ruleset)\s+)*)([^\s(){}.;,@\"«»]+)(?: \{[^{}\n]*\})* :")
+DECLARED = re.compile(r"^( *)((?:(?:pub|abbrev|unfoldable|opaque|ruleset)\s+)*)([^\s(){}.;,@\"«»]+)(?: \{[^{}\n]*\})* :(?= |$)")
 SEVERAL = re.compile(r"^  ((?:[a-z][\w'-]* )+): ")
 KEYWORD = {"let", "use", "mod", "module", "in", "rw", "elim", "pub"}
 RULESET = re.compile(r"^( *)(?:pub )?(?:ruleset|syntax) (?:\d+ )?([^\s(){}.;,@\"«»]+)")
@@ -78,6 +79,8 @@ def lemma_file(path):
     steps = path.split("/")
     if not path.endswith(".antt"):
         return False
+    if steps[-1] in ("Answers.antt", "Invariants.antt"):
+        return False
     return steps[2] == "specs" or (steps[2] == "proofs" and not os.path.exists(os.path.join(os.path.dirname(path), "Proof.antt")))
 
 
@@ -99,7 +102,7 @@ def main(argv):
         if lemma_file(p):
             for line in t.split("\n"):
                 m = DECLARED.match(line)
-                if m and len(m[1]) <= 2 and is_plain(m[3]):
+                if m and is_plain(m[3]):
                     owns[m[3]] += 1
                 m = SEVERAL.match(line)
                 if m and not KEYWORD & set(m[1].split()):

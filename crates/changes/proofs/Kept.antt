@@ -96,17 +96,17 @@ module _ {r : Record} {d : Buffers} {s : Sentence} (h : Holds r d s) where
 
   -- ---- tags that are reset
   module _ (t : Sentence) (e : rows t ≡ replicate r.n []) where
-    pub cell-starts-reset : (laid t d).cell_starts_buf ≡ over (replicate (r.n * t.columns) 0) d.cell_starts_buf
+    pub cell_starts_reset : (laid t d).cell_starts_buf ≡ over (replicate (r.n * t.columns) 0) d.cell_starts_buf
     unfolding lay laid
-    cell-starts-reset = rw (e, no_cells, no_starts)
+    cell_starts_reset = rw (e, no_cells, no_starts)
 
-    pub cell-lengths-reset : (laid t d).cell_lengths_buf ≡ over (replicate (r.n * t.columns) 0) d.cell_lengths_buf
+    pub cell_lengths_reset : (laid t d).cell_lengths_buf ≡ over (replicate (r.n * t.columns) 0) d.cell_lengths_buf
     unfolding lay laid
-    cell-lengths-reset = rw (e, no_cells, no_lengths)
+    cell_lengths_reset = rw (e, no_cells, no_lengths)
 
-    pub tag-bytes-reset : (laid t d).tag_bytes_buf ≡ d.tag_bytes_buf
+    pub tag_bytes_reset : (laid t d).tag_bytes_buf ≡ d.tag_bytes_buf
     unfolding lay laid bytes_of
-    tag-bytes-reset = rw (e, no_tags)
+    tag_bytes_reset = rw (e, no_tags)
 
   -- ---- what the calls leave
   pub boundary_lays : (i v : ℕ) → i < r.n - 1 → v ≤ 2
@@ -138,5 +138,5 @@ module _ {r : Record} {d : Buffers} {s : Sentence} (h : Holds r d s) where
         answer_is = rw (x, y, no_tag_bytes, ← n, ← b);
         leaves =
             in_order (stays t the_text (rw x)) (stays t the_types (rw x)) (stays t the_boundaries (rw (marks_bare s.cells))) (stays t the_char_pos (rw x)) (stays t the_byte_pos (rw x))
-            (e ∙ sym (cell-starts-reset t y ∙ rw length-replicate)) (f ∙ sym (cell-lengths-reset t y ∙ rw length-replicate)) (sym (tag-bytes-reset t y));
+            (e ∙ sym (cell_starts_reset t y ∙ rw length-replicate)) (f ∙ sym (cell_lengths_reset t y ∙ rw length-replicate)) (sym (tag_bytes_reset t y));
       }

@@ -25,9 +25,9 @@ module _ (r : Record) (d : Buffers) (c : ℕ) (g : Bool) (e : g ≡ is_sheet r d
   reset_broken h = rw (← e, h)
 
   module _ (h : not g ≡ false) where
-    pub reset-outside : 4096 < c → answer.Refused (refusal 14 c) ≡ reset_answer (is_sheet r d) (spell r d) c d
+    pub reset_outside : 4096 < c → answer.Refused (refusal 14 c) ≡ reset_answer (is_sheet r d) (spell r d) c d
     unfolding reset_answer verdict when◌then◌else◌
-    reset-outside o = rw (← e, h, lt-ltb 4096 c o)
+    reset_outside o = rw (← e, h, lt-ltb 4096 c o)
 
     pub product_few : c ≤ 4096 → r.n * c ≤ 16777216
     product_few o = let b = bounds (checked r d g e h) in omega (arith, mul-le-mul_right {m = r.n} {n = 4096} c (omega arith))
@@ -46,5 +46,5 @@ module _ (r : Record) (d : Buffers) (c : ℕ) (g : Bool) (e : g ≡ is_sheet r d
         unfolding reset_answer verdict when◌then◌else◌
         reset_served = rw (← e, h, le-ltb 4096 c o, lacks false k)
 
-        pub reset-room : Sheet r d × (c ≤ 4096) × (r.n * c ≤ length d.cell_starts_buf) × (r.n * c ≤ length d.cell_lengths_buf)
-        reset-room = let n = neither _ _ k in (checked r d g e h, o, ltb-false _ (r.n * c) n.0, ltb-false _ (r.n * c) n.1)
+        pub reset_room : Sheet r d × (c ≤ 4096) × (r.n * c ≤ length d.cell_starts_buf) × (r.n * c ≤ length d.cell_lengths_buf)
+        reset_room = let n = neither _ _ k in (checked r d g e h, o, ltb-false _ (r.n * c) n.0, ltb-false _ (r.n * c) n.1)

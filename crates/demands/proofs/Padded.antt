@@ -34,7 +34,7 @@ use Rattle.sheet.proofs.Exact.{holds_is}
 use Rattle.sheet.proofs.Look.{bounds, cell_start_is, cell_fits}
 use Rattle.sheet.proofs.Listed.{same_spelled}
 use Rattle.lookups.specs.Answers.{cell}
-use Rattle.lookups.proofs.Laws.{cell-length-at}
+use Rattle.lookups.proofs.Laws.{cell_length_at}
 use Rattle.lookups.proofs.Slices.{cell_of_table}
 use Rattle.changes.specs.Changes.{lack_cells, reset_answer, TagsReset}
 use Rattle.read_load.specs.Load.{ReadDoes}
@@ -64,7 +64,7 @@ module _ (r : Record) (d : Buffers) (s : Sentence) (row column : ℕ) (h : Holds
   length_at : get_or d.cell_lengths_buf (row * s.columns + column) 0 ≡ size (get_or (get_or (table s) row []) column [])
   length_at =
       let b = bounds h in
-      let e : get_or d.cell_lengths_buf (row * s.columns + column) 0 ≡ size (cell s row column) = rw (← b.columns_is) (cell-length-at h row column (omega arith) (omega arith)) in
+      let e : get_or d.cell_lengths_buf (row * s.columns + column) 0 ≡ size (cell s row column) = rw (← b.columns_is) (cell_length_at h row column (omega arith) (omega arith)) in
       e ∙ ap size (sym (cell_of_table s row column (omega arith)))
 
   absent_at : (get_or d.cell_lengths_buf (row * s.columns + column) 0 ≡ 0) ↔ (get_or (get_or (table s) row []) column [] ≡ [])

@@ -1,4 +1,4 @@
--- Two outcomes of one of the host's calls coincide; of those that put a line `puts-once` (write, Laws) says it. Assumes nothing.
+-- Two outcomes of one of the host's calls coincide; of those that put a line `puts_once` (write, Laws) says it. Assumes nothing.
 use Prim.Native.Nat.{ℕ}
 use mathlib.Core.Path.{◌≡◌, sym, ◌∙◌}
 use mathlib.Core.List.{List}

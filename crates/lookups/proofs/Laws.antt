@@ -94,25 +94,25 @@ module _ {r : Record} {d : Buffers} {s : Sentence} (h : Holds r d s) where
 
   -- ---- cells
   module _ (row column : ℕ) (k : row < r.n) (l : column < r.columns) where
-    pub cell-start-at : get_or d.cell_starts_buf (row * r.columns + column) 0 ≡ cell_start (rows s) row column
+    pub cell_start_at : get_or d.cell_starts_buf (row * r.columns + column) 0 ≡ cell_start (rows s) row column
     unfolding cell_start
-    cell-start-at = cell_start_is h (row * r.columns + column) (cell_fits h row column k l) ∙ cell_at h row column k (omega arith)
+    cell_start_at = cell_start_is h (row * r.columns + column) (cell_fits h row column k l) ∙ cell_at h row column k (omega arith)
 
-    pub cell-length-at : get_or d.cell_lengths_buf (row * r.columns + column) 0 ≡ size (cell s row column)
-    cell-length-at = cell_length_is h (row * r.columns + column) (cell_fits h row column k l) ∙ ap size (cell_in_row h row column k l)
+    pub cell_length_at : get_or d.cell_lengths_buf (row * r.columns + column) 0 ≡ size (cell s row column)
+    cell_length_at = cell_length_is h (row * r.columns + column) (cell_fits h row column k l) ∙ ap size (cell_in_row h row column k l)
 
     -- the index of a cell is within both lists, and no larger than a number can be
-    pub cell-index : (row * r.columns + column < length d.cell_starts_buf) × (row * r.columns + column < length d.cell_lengths_buf) × (row * r.columns + column ≤ 16777216)
-    cell-index =
+    pub cell_index : (row * r.columns + column < length d.cell_starts_buf) × (row * r.columns + column < length d.cell_lengths_buf) × (row * r.columns + column ≤ 16777216)
+    cell_index =
         let f = cell_fits h row column k l in
         let b = bounds h in
         let m : r.n * r.columns ≤ 16777216 = omega (arith, mul-le-mul_right {m = r.n} {n = 4096} r.columns (omega arith)) in
         (omega arith, omega arith, omega arith)
 
-    pub tag-absent : get_or d.cell_lengths_buf (row * r.columns + column) 0 ≡ 0 → slice.Absent ≡ tag_slice (cell_start (rows s) row column) (cell s row column)
-    tag-absent e = tag_empty _ _ (no_bytes (cell s row column) (sym cell-length-at ∙ e))
+    pub tag_absent : get_or d.cell_lengths_buf (row * r.columns + column) 0 ≡ 0 → slice.Absent ≡ tag_slice (cell_start (rows s) row column) (cell s row column)
+    tag_absent e = tag_empty _ _ (no_bytes (cell s row column) (sym cell_length_at ∙ e))
 
-    pub tag-present : (get_or d.cell_lengths_buf (row * r.columns + column) 0 ≡ 0 → ⊥)
+    pub tag_present : (get_or d.cell_lengths_buf (row * r.columns + column) 0 ≡ 0 → ⊥)
         → slice.Bytes (get_or d.cell_starts_buf (row * r.columns + column) 0) (get_or d.cell_starts_buf (row * r.columns + column) 0 + get_or d.cell_lengths_buf (row * r.columns + column) 0)
         ≡ tag_slice (cell_start (rows s) row column) (cell s row column)
-    tag-present e = rw (cell-start-at, cell-length-at) (tag_some _ (cell s row column) (λ z. e (cell-length-at ∙ z)))
+    tag_present e = rw (cell_start_at, cell_length_at) (tag_some _ (cell s row column) (λ z. e (cell_length_at ∙ z)))

@@ -40,105 +40,105 @@ module _ (f : ℕ → ℕ → ℕ) where
 
   module _ (c : ℕ) where
     -- the rows that have them
-    unfoldable pub cellStore : Store
-    cellStore = record { index = place c; emit = λ a k. cells_at c (f (k.g - k.long) k.long) (f k.g 0) a k; last = λ k. row_cells c (f (k.g - k.long) k.long) (f k.g 0) k }
+    unfoldable pub cell_store : Store
+    cell_store = record { index = place c; emit = λ a k. cells_at c (f (k.g - k.long) k.long) (f k.g 0) a k; last = λ k. row_cells c (f (k.g - k.long) k.long) (f k.g 0) k }
 
     -- the cells that are yet to be stored: t is the rest of the open tag, ts are the tags after it, us the cells of the rows that follow
-    unfoldable pub rowLeft : Bool → Counts → Tag → List Tag → List Tag → List ℕ
-    rowLeft true k t ts us = f (k.g - k.long) (k.long + size t) ∷ values_by (k.g + size t) (pad (c - (k.tags + 1)) ts ++ us)
-    rowLeft false k t ts us = values_by k.g (pad (c - k.tags) ts ++ us)
+    unfoldable pub row_left : Bool → Counts → Tag → List Tag → List Tag → List ℕ
+    row_left true k t ts us = f (k.g - k.long) (k.long + size t) ∷ values_by (k.g + size t) (pad (c - (k.tags + 1)) ts ++ us)
+    row_left false k t ts us = values_by k.g (pad (c - k.tags) ts ++ us)
 
     unfoldable pub left_from : ℕ → Counts → Tag → List Tag → List Tag → List ℕ
     left_from zero k t ts us = values_by (k.g + held k.tag t + row_bytes ts) us
-    left_from (suc n) k t ts us = rowLeft k.tag k t ts us
+    left_from (suc n) k t ts us = row_left k.tag k t ts us
 
-    unfoldable pub cellsLeft : Counts → Parsed → List ℕ
-    cellsLeft k (parsed t ts n r) = left_from k.n k t ts (cells_of c (rows_in r))
+    unfoldable pub cells_left : Counts → Parsed → List ℕ
+    cells_left k (parsed t ts n r) = left_from k.n k t ts (cells_of c (rows_in r))
 
     -- where a row is over
-    row-over : (n : ℕ) (o : Bool) (k : Counts) (us : List Tag) → k.tag ≡ o
+    row_over : (n : ℕ) (o : Bool) (k : Counts) (us : List Tag) → k.tag ≡ o
         → (open_cell n o (f (k.g - k.long) k.long) ++ absent_cells n (c - (k.tags + opened o)) (f k.g 0)) ++ values_by k.g us ≡ left_from n k [] [] us
-    unfolding open_cell absent_cells opened left_from rowLeft row_bytes size
-    row-over zero o k us e = let z : k.g + held k.tag [] + 0 ≡ k.g = omega (arith, no_bytes k.tag) in rw z
-    row-over (suc n) true k us e =
+    unfolding open_cell absent_cells opened left_from row_left row_bytes size
+    row_over zero o k us e = let z : k.g + held k.tag [] + 0 ≡ k.g = omega (arith, no_bytes k.tag) in rw z
+    row_over (suc n) true k us e =
         let a : k.long + 0 ≡ k.long = omega arith in
         let b : k.g + 0 ≡ k.g = omega arith in
         rw (e, a, b, pad_none, values_absent)
-    row-over (suc n) false k us e = let a : k.tags + 0 ≡ k.tags = omega arith in rw (e, a, pad_none, values_absent)
+    row_over (suc n) false k us e = let a : k.tags + 0 ≡ k.tags = omega arith in rw (e, a, pad_none, values_absent)
 
     -- where another tag opens
-    tag-opens : (n : ℕ) (o : Bool) (k : Counts) (t : Tag) (ts us : List Tag) → k.tag ≡ o
+    tag_opens : (n : ℕ) (o : Bool) (k : Counts) (t : Tag) (ts us : List Tag) → k.tag ≡ o
         → open_cell n o (f (k.g - k.long) k.long) ++ left_from n (opening k) t ts us ≡ left_from n k [] (t ∷ ts) us
-    unfolding open_cell opening opened left_from rowLeft held row_bytes size values_by
-    tag-opens zero o k t ts us e = let z : k.g + size t + row_bytes ts ≡ k.g + held k.tag [] + (size t + row_bytes ts) = omega (arith, no_bytes k.tag) in rw z
-    tag-opens (suc n) true k t ts us e =
+    unfolding open_cell opening opened left_from row_left held row_bytes size values_by
+    tag_opens zero o k t ts us e = let z : k.g + size t + row_bytes ts ≡ k.g + held k.tag [] + (size t + row_bytes ts) = omega (arith, no_bytes k.tag) in rw z
+    tag_opens (suc n) true k t ts us e =
         let a : k.g - 0 ≡ k.g = omega arith in
         let b : 0 + size t ≡ size t = omega arith in
         let d : c - (k.tags + 1 + 1) ≡ c - (k.tags + 1) - 1 = omega arith in
         let u : k.long + 0 ≡ k.long = omega arith in
         let v : k.g + 0 ≡ k.g = omega arith in
         rw (e, a, b, d, u, v, pad_cons)
-    tag-opens (suc n) false k t ts us e =
+    tag_opens (suc n) false k t ts us e =
         let a : k.g - 0 ≡ k.g = omega arith in
         let b : 0 + size t ≡ size t = omega arith in
         let d : c - (k.tags + 0 + 1) ≡ c - k.tags - 1 = omega arith in
         rw (e, a, b, d, pad_cons)
 
     -- a character of the open tag
-    tag-grows : (n : ℕ) (o : Bool) (k : Counts) (d : ℕ) (t : Tag) (ts us : List Tag) → k.tag ≡ o → left_from n (grows o (width d) k) t ts us ≡ left_from n k (d ∷ t) ts us
-    unfolding grows left_from rowLeft held size
-    tag-grows zero true k d t ts us e = let z : k.g + width d + size t + row_bytes ts ≡ k.g + (width d + size t) + row_bytes ts = omega arith in rw (e, z)
-    tag-grows zero false k d t ts us e = rw e
-    tag-grows (suc n) true k d t ts us e =
+    tag_grows : (n : ℕ) (o : Bool) (k : Counts) (d : ℕ) (t : Tag) (ts us : List Tag) → k.tag ≡ o → left_from n (grows o (width d) k) t ts us ≡ left_from n k (d ∷ t) ts us
+    unfolding grows left_from row_left held size
+    tag_grows zero true k d t ts us e = let z : k.g + width d + size t + row_bytes ts ≡ k.g + (width d + size t) + row_bytes ts = omega arith in rw (e, z)
+    tag_grows zero false k d t ts us e = rw e
+    tag_grows (suc n) true k d t ts us e =
         let a : k.g + width d - (k.long + width d) ≡ k.g - k.long = omega arith in
         let b : k.long + width d + size t ≡ k.long + (width d + size t) = omega arith in
         let z : k.g + width d + size t ≡ k.g + (width d + size t) = omega arith in
         rw (e, a, b, z)
-    tag-grows (suc n) false k d t ts us e = rw e
+    tag_grows (suc n) false k d t ts us e = rw e
 
-    grows-n : (o : Bool) (w : ℕ) (k : Counts) → (grows o w k).n ≡ k.n
+    grows_n : (o : Bool) (w : ℕ) (k : Counts) → (grows o w k).n ≡ k.n
     unfolding grows
-    grows-n true w k = refl
-    grows-n false w k = refl
+    grows_n true w k = refl
+    grows_n false w k = refl
 
     -- a row that follows
     next_row : (k : Counts) (w n : ℕ) (t : Tag) (ts us : List Tag) → length ts ≤ c → values_by k.g (pad c (cut ts) ++ us) ≡ left_from (suc n) (letters w k) t ts us
-    unfolding letters left_from rowLeft
+    unfolding letters left_from row_left
     next_row k w n t ts us h = let z : c - 0 ≡ c = omega arith in rw (z, pad_cut c ts h)
 
-    letter-left : (k : Counts) (w : ℕ) (t : Tag) (ts us : List Tag) → length ts ≤ c → values_by k.g (pad c (cut ts) ++ us) ≡ left_from (letters w k).n (letters w k) t ts us
+    letter_left : (k : Counts) (w : ℕ) (t : Tag) (ts us : List Tag) → length ts ≤ c → values_by k.g (pad c (cut ts) ++ us) ≡ left_from (letters w k).n (letters w k) t ts us
     unfolding letters
-    letter-left k w t ts us h =
+    letter_left k w t ts us h =
         let z : suc k.n ≡ k.n + 1 = omega arith in
         next_row k w k.n t ts us h ∙ ap (λ (m : ℕ). left_from m (letters w k) t ts us) z
 
-    opens-left : (k : Counts) (t : Tag) (ts us : List Tag)
+    opens_left : (k : Counts) (t : Tag) (ts us : List Tag)
         → open_cell k.n k.tag (f (k.g - k.long) k.long) ++ left_from (opening k).n (opening k) t ts us ≡ left_from k.n k [] (t ∷ ts) us
     unfolding opening
-    opens-left k t ts us = tag-opens k.n k.tag k t ts us refl
+    opens_left k t ts us = tag_opens k.n k.tag k t ts us refl
 
-    grows-left : (k : Counts) (d : ℕ) (t : Tag) (ts us : List Tag) → left_from (grows k.tag (width d) k).n (grows k.tag (width d) k) t ts us ≡ left_from k.n k (d ∷ t) ts us
-    grows-left k d t ts us =
-        ap (λ (m : ℕ). left_from m (grows k.tag (width d) k) t ts us) (grows-n k.tag (width d) k) ∙ tag-grows k.n k.tag k d t ts us refl
+    grows_left : (k : Counts) (d : ℕ) (t : Tag) (ts us : List Tag) → left_from (grows k.tag (width d) k).n (grows k.tag (width d) k) t ts us ≡ left_from k.n k (d ∷ t) ts us
+    grows_left k d t ts us =
+        ap (λ (m : ℕ). left_from m (grows k.tag (width d) k) t ts us) (grows_n k.tag (width d) k) ∙ tag_grows k.n k.tag k d t ts us refl
 
-    few-after : (k : Counts) (t : Tag) (ts : List Tag) (n : ℕ) (r : Rest) → widest k (parsed t ts n r) ≤ c → length ts ≤ c
+    few_after : (k : Counts) (t : Tag) (ts : List Tag) (n : ℕ) (r : Rest) → widest k (parsed t ts n r) ≤ c → length ts ≤ c
     unfolding widest
-    few-after k t ts n r h = omega arith
+    few_after k t ts n r h = omega arith
 
-    add-cells : (a : Act) (k : Counts) (p : Parsed) → widest (tally a k) p ≤ c → cellStore.emit a k ++ cellsLeft (tally a k) p ≡ cellsLeft k (add a p)
-    unfolding cellStore cells_at row_cells cellsLeft tally tally_by bytes add rows_in cells_of
-    add-cells skip k (parsed t ts n r) h = refl
-    add-cells (letter m d) k (parsed t ts n r) h =
-        rw (before_rows d ts r, ← (letter-left k (width d) t ts (cells_of c (rows_in r)) (few-after _ t ts n r h))) (row-over k.n k.tag k _ refl)
-    add-cells opens k (parsed t ts n r) h = opens-left k t ts _
-    add-cells (of_tag d) k (parsed t ts n r) h = grows-left k d t ts _
+    add_cells : (a : Act) (k : Counts) (p : Parsed) → widest (tally a k) p ≤ c → cell_store.emit a k ++ cells_left (tally a k) p ≡ cells_left k (add a p)
+    unfolding cell_store cells_at row_cells cells_left tally tally_by bytes add rows_in cells_of
+    add_cells skip k (parsed t ts n r) h = refl
+    add_cells (letter m d) k (parsed t ts n r) h =
+        rw (before_rows d ts r, ← (letter_left k (width d) t ts (cells_of c (rows_in r)) (few_after _ t ts n r h))) (row_over k.n k.tag k _ refl)
+    add_cells opens k (parsed t ts n r) h = opens_left k t ts _
+    add_cells (of_tag d) k (parsed t ts n r) h = grows_left k d t ts _
 
-    pub cells-emits : (l : List Act) (k : Counts) → widest k (gather l) ≤ c → emits cellStore l k ≡ cellsLeft k (gather l)
-    unfolding emits cellStore row_cells cellsLeft gather rows_in cells_of values_by
-    cells-emits [] k h = sym (append-nil _) ∙ row-over k.n k.tag k [] refl
-    cells-emits (a ∷ l) k h =
+    pub cells_emits : (l : List Act) (k : Counts) → widest k (gather l) ≤ c → emits cell_store l k ≡ cells_left k (gather l)
+    unfolding emits cell_store row_cells cells_left gather rows_in cells_of values_by
+    cells_emits [] k h = sym (append-nil _) ∙ row_over k.n k.tag k [] refl
+    cells_emits (a ∷ l) k h =
         let i : widest (tally a k) (gather l) ≤ c = omega (arith, widest_less a k (gather l)) in
-        rw (cells-emits l (tally a k) i) (add-cells a k (gather l) i)
+        rw (cells_emits l (tally a k) i) (add_cells a k (gather l) i)
 
 -- starts and lengths
 pub starts_values : (g : ℕ) (ts : List Tag) → values_by (λ b l. b) g ts ≡ cell_starts g ts

@@ -26,7 +26,7 @@ use Rattle.read_stores.specs.Stores.{later, spot, place, open_cell, absent_cells
 use Rattle.read_stores.proofs.Copies.{put_append}
 use Rattle.read_fill.specs.Emits.{emits}
 use Rattle.read_fill.proofs.Texts.{rest_of, bounds, text_emits, types_emits, boundaries_emits, char_pos_emits, byte_pos_emits}
-use Rattle.read_fill.proofs.Cells.{values_by, cellStore, left_from, cellsLeft, cells-emits, starts_values, lengths_values, bytes_left, tag_bytes_emits}
+use Rattle.read_fill.proofs.Cells.{values_by, cell_store, left_from, cells_left, cells_emits, starts_values, lengths_values, bytes_left, tag_bytes_emits}
 
 -- ---- from the start
 -- what the acts of a line gather that reads to s
@@ -49,16 +49,16 @@ pub record Emitted (l : List Act) (s : Sentence) : Type 0 where
 
 -- the cells of a line that begins so
 cells_all : (v : ℕ → ℕ → ℕ) (l : List Act) (s : Sentence) → Begun (gather l) s → widest nothing (gather l) ≤ s.columns
-    → emits (cellStore v s.columns) l nothing ≡ values_by v 0 (cells_of s.columns (rows s))
-unfolding nothing cellsLeft left_from held rows_in row_bytes
-cells_all v l s b w = cells-emits v s.columns l nothing w ∙ rw b.is
+    → emits (cell_store v s.columns) l nothing ≡ values_by v 0 (cells_of s.columns (rows s))
+unfolding nothing cells_left left_from held rows_in row_bytes
+cells_all v l s b w = cells_emits v s.columns l nothing w ∙ rw b.is
 
 begun_wide : (p : Parsed) (s : Sentence) → Begun p s → widest nothing p ≤ s.columns
 unfolding widest nothing opened
 begun_wide p s b = rw b.is (omega (arith, b.wide))
 
 pub emitted : (f : Form) (x : List ℕ) (l : List Act) (s : Sentence) → run f (at start) x ≡ whole l → built (gather l) ≡ sentence s → Emitted l s
-unfolding lay nothing rest_of letters_in rows_in bounds bytes_left kept bytes_of cellStore cell_starts_store cell_lengths_store
+unfolding lay nothing rest_of letters_in rows_in bounds bytes_left kept bytes_of cell_store cell_starts_store cell_lengths_store
 emitted f x l s r e =
     let b = begun (gather l) s (run_fresh f x l r) e in
     let w = begun_wide (gather l) s b in

@@ -137,9 +137,9 @@ module _ {f : Form} {c : ℕ} {x : List ℕ} {σ : State} {k : Counts} {p : ℕ}
 
   module _ {v n : ℕ} (q : decode_at x p ≡ Char v n) where
     -- it is not refused
-    lay-goes : Goes (advance f (state_of σ) v)
+    lay_goes : Goes (advance f (state_of σ) v)
     unfolding run follow
-    lay-goes = on (advance f (state_of σ) v) refl
+    lay_goes = on (advance f (state_of σ) v) refl
       where
         on : (s : Step) → advance f (state_of σ) v ≡ s → Goes s
         on (go τ a) w = tt
@@ -148,16 +148,16 @@ module _ {f : Form} {c : ℕ} {x : List ℕ} {σ : State} {k : Counts} {p : ℕ}
             let z : ◌≡◌ {A = ℕ} 0 1 = cc in
             omega arith
 
-    pub lay-some : v ≡ 0 → ⊥
+    pub lay_some : v ≡ 0 → ⊥
     unfolding advance when◌then◌else◌
-    lay-some z = rw z at lay-goes
+    lay_some z = rw z at lay_goes
 
     module _ {g : Stepped} (g₁ : g ≡ stepped v (advance f (state_of σ) v)) where
       steps : advance f (state_of σ) v ≡ go (state_of g.state) (act_of g)
-      steps = advanced f (state_of σ) v g g₁ lay-goes
+      steps = advanced f (state_of σ) v g g₁ lay_goes
 
-      act-of : ActOf v (act_of g)
-      act-of = subst (StepOf v) steps (advance_of f (state_of σ) v)
+      act_of_lem : ActOf v (act_of g)
+      act_of_lem = subst (StepOf v) steps (advance_of f (state_of σ) v)
 
       goes : Went (act_of g) (run f (state_of g.state) (scalars (drop (p + n) x))) h.left
       unfolding run follow
@@ -166,21 +166,21 @@ module _ {f : Form} {c : ℕ} {x : List ℕ} {σ : State} {k : Counts} {p : ℕ}
       parts : Goings (act_of g ∷ goes.rest) k h.s d₀ d
       parts = subst (λ (l : List Act). Goings l k h.s d₀ d) goes.is h.goings
 
-      pub lay-turning : Turning c (act_of g) k x p n d
+      pub lay_turning : Turning c (act_of g) k x p n d
       unfolding decode_at
-      lay-turning = record {
+      lay_turning = record {
         small = lay_small;
         narrow = record { few = omega (arith, h.stride, lay_formed.columns_fit); fits = omega (arith, h.stride, goings_narrow (act_of g) goes.rest k h.s d₀ d parts) };
         some = (len_ok x p v n q).0;
         few = (len_ok x p v n q).1;
         within = char_within x p v n h.within q;
-        bytes = act_bytes (act_of g) v (take n (drop p x)) act-of (encode_decode (drop p x) v n q).bytes;
+        bytes = act_bytes (act_of g) v (take n (drop p x)) act_of_lem (encode_decode (drop p x) v n q).bytes;
         room = rw h.stride (goings_room (act_of g) goes.rest k h.s d₀ d parts);
       }
 
-      pub lay-go : {k' : Counts} {e : Buffers} → Stored c (λ (o : Store). o.emit (act_of g) k) k d e → k' ≡ tally_by n (act_of g) k → Laying f c x g.state k' (p + n) d₀ e
-      lay-go {k'} {e} w i =
-          let j : k' ≡ tally (act_of g) k = i ∙ rw (width_at x p v n q) (tally_width (act_of g) v k act-of) in
+      pub lay_go : {k' : Counts} {e : Buffers} → Stored c (λ (o : Store). o.emit (act_of g) k) k d e → k' ≡ tally_by n (act_of g) k → Laying f c x g.state k' (p + n) d₀ e
+      lay_go {k'} {e} w i =
+          let j : k' ≡ tally (act_of g) k = i ∙ rw (width_at x p v n q) (tally_width (act_of g) v k act_of_lem) in
           record {
             s = h.s;
             left = goes.rest;

@@ -32,21 +32,21 @@ grows_reads false w k = refl
 -- what is stored at a character, and at the end, by how much was read; and the same of a whole rest
 module _ (p : Store) (at : ℕ × ℕ → Mark → ℕ → List ℕ) (end : ℕ × ℕ → List ℕ) (all : ℕ × ℕ → Rest → List ℕ)
     (emit-is : (a : Act) (k : Counts) → p.emit a k ≡ on_letter (at (reads k)) a)
-    (last-is : (k : Counts) → p.last k ≡ end (reads k))
+    (last_is : (k : Counts) → p.last k ≡ end (reads k))
     (over-is : (r : ℕ × ℕ) → all r over ≡ end r)
     (next_is : (r : ℕ × ℕ) (m : Mark) (c : ℕ) (ts : List Tag) (q : Rest) → all r (next m (before c ts q)) ≡ at r m c ++ all (r.0 + 1, r.1 + width c) q)
   where
-    emits-add : (a : Act) (k : Counts) (q : Parsed) → on_letter (at (reads k)) a ++ all (reads (tally a k)) (rest_of q) ≡ all (reads k) (rest_of (add a q))
+    emits_add : (a : Act) (k : Counts) (q : Parsed) → on_letter (at (reads k)) a ++ all (reads (tally a k)) (rest_of q) ≡ all (reads k) (rest_of (add a q))
     unfolding on_letter tally tally_by bytes letters opening reads rest_of add
-    emits-add skip k (parsed t ts n r) = refl
-    emits-add (letter m c) k (parsed t ts n r) = sym (next_is _ m c ts r)
-    emits-add opens k (parsed t ts n r) = refl
-    emits-add (of_tag c) k (parsed t ts n r) = ap (λ (z : ℕ × ℕ). all z r) (grows_reads k.tag (width c) k)
+    emits_add skip k (parsed t ts n r) = refl
+    emits_add (letter m c) k (parsed t ts n r) = sym (next_is _ m c ts r)
+    emits_add opens k (parsed t ts n r) = refl
+    emits_add (of_tag c) k (parsed t ts n r) = ap (λ (z : ℕ × ℕ). all z r) (grows_reads k.tag (width c) k)
 
-    pub emits-text : (l : List Act) (k : Counts) → emits p l k ≡ all (reads k) (rest_of (gather l))
+    pub emits_text : (l : List Act) (k : Counts) → emits p l k ≡ all (reads k) (rest_of (gather l))
     unfolding emits gather rest_of
-    emits-text [] k = last-is k ∙ sym (over-is (reads k))
-    emits-text (a ∷ l) k = rw (emit-is a k, emits-text l (tally a k)) (emits-add a k (gather l))
+    emits_text [] k = last_is k ∙ sym (over-is (reads k))
+    emits_text (a ∷ l) k = rw (emit-is a k, emits_text l (tally a k)) (emits_add a k (gather l))
 
 -- ---- the text's bytes and types, its boundaries, and its positions
 -- the boundaries that are left: that before the first character is not stored
@@ -83,29 +83,29 @@ bounds_next (suc n) m c ts q = rw (add-one, before_marks c ts q)
 pub text_emits : (l : List Act) (k : Counts) → emits text_store l k ≡ encodes (letters_in (rest_of (gather l)))
 unfolding text_store letters_in encodes
 text_emits =
-    emits-text text_store (λ r m c. encode c) (λ r. []) (λ r q. encodes (letters_in q))
+    emits_text text_store (λ r m c. encode c) (λ r. []) (λ r q. encodes (letters_in q))
     (λ a k. refl) (λ k. refl) (λ r. refl) (λ r m c ts q. text_next c ts q)
 
 pub types_emits : (l : List Act) (k : Counts) → emits types_store l k ≡ map type_of (letters_in (rest_of (gather l)))
 unfolding types_store letters_in
 types_emits =
-    emits-text types_store (λ r m c. type_of c ∷ []) (λ r. []) (λ r q. map type_of (letters_in q))
+    emits_text types_store (λ r m c. type_of c ∷ []) (λ r. []) (λ r q. map type_of (letters_in q))
     (λ a k. refl) (λ k. refl) (λ r. refl) (λ r m c ts q. types_next c ts q)
 
 pub boundaries_emits : (l : List Act) (k : Counts) → emits boundaries_store l k ≡ bounds k.n (rest_of (gather l))
 unfolding boundaries_store reads
 boundaries_emits =
-    emits-text boundaries_store (λ r m c. later r.0 (code m)) (λ r. []) (λ r q. bounds r.0 q)
+    emits_text boundaries_store (λ r m c. later r.0 (code m)) (λ r. []) (λ r q. bounds r.0 q)
     (λ a k. refl) (λ k. refl) (λ r. bounds_over r.0) (λ r m c ts q. bounds_next r.0 m c ts q)
 
 pub char_pos_emits : (l : List Act) (k : Counts) → emits char_pos_store l k ≡ starts k.b (letters_in (rest_of (gather l)))
 unfolding char_pos_store reads letters_in starts
 char_pos_emits =
-    emits-text char_pos_store (λ r m c. r.1 ∷ []) (λ r. r.1 ∷ []) (λ r q. starts r.1 (letters_in q))
+    emits_text char_pos_store (λ r m c. r.1 ∷ []) (λ r. r.1 ∷ []) (λ r q. starts r.1 (letters_in q))
     (λ a k. refl) (λ k. refl) (λ r. refl) (λ r m c ts q. starts_next r.1 c ts q)
 
 pub byte_pos_emits : (l : List Act) (k : Counts) → emits byte_pos_store l k ≡ numbers k.n (letters_in (rest_of (gather l)))
 unfolding byte_pos_store reads letters_in numbers
 byte_pos_emits =
-    emits-text byte_pos_store (λ r m c. r.0 ∷ replicate (width c - 1) 0) (λ r. r.0 ∷ []) (λ r q. numbers r.0 (letters_in q))
+    emits_text byte_pos_store (λ r m c. r.0 ∷ replicate (width c - 1) 0) (λ r. r.0 ∷ []) (λ r q. numbers r.0 (letters_in q))
     (λ a k. refl) (λ k. refl) (λ r. refl) (λ r m c ts q. numbers_next r.0 c ts q)

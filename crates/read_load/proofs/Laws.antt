@@ -38,16 +38,16 @@ pub holding : (f : Form) (x : List ℕ) (d e : Buffers) (r : Record) → read_an
 unfolding read_answer read_leaves reader_order verdict lacks when◌then◌else◌
 holding f x d e r = on (read f x) refl
   where
-    laid-down : (s : Sentence) (t : Bool) → read f x ≡ sentence s → lacks d s ≡ t
+    laid_down : (s : Sentence) (t : Bool) → read f x ≡ sentence s → lacks d s ≡ t
         → (when t then answer.Refused (refusal 11 0) else answer.Sentence (record_of s)) ≡ answer.Sentence r → e ≡ (when t then d else laid s d) → Holding (sentence s) r e
-    laid-down s true i l a b = let z : ◌≡◌ {A = ℕ} 0 1 = cc in absurd (omega arith)
-    laid-down s false i l a b =
+    laid_down s true i l a b = let z : ◌≡◌ {A = ℕ} 0 1 = cc in absurd (omega arith)
+    laid_down s false i l a b =
         let q : record_of s ≡ r = cc in
         let h : Holds r e s = rw (b, ← q) (laid_holds s d (read_formed f x s i).0 (not-false _ l)) in
         record { s = s; reads = refl; holds = h; is_sheet_lem = holds_is r e s h }
 
     on : (q : Result) → read f x ≡ q → read_answer q d ≡ answer.Sentence r → e ≡ read_leaves q d → Holding q r e
-    on (sentence s) i a b = laid-down s (lacks d s) i refl a b
+    on (sentence s) i a b = laid_down s (lacks d s) i refl a b
     on (refused n p) i a b = let z : ◌≡◌ {A = ℕ} 0 1 = cc in absurd (omega arith)
 
 -- what a reader leaves where it answers a sentence

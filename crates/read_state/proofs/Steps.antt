@@ -170,14 +170,14 @@ module _ (s : State) (f : Form) (c : ℕ) (r : Stepped) where
   hands_plain k z h p q e = e ∙ ap (stepped c) (sym (advance_plain s f c z h (kind_is (kind f c) k _ p q)))
 
   module _ (l : Bool) (k : kinds.Kind) (z : c ≡ 0 → ⊥) (h : s.escape ≡ false) (n : l ≡ literal f (place_of s)) (g : l ≡ false) (p : k ≡ kind_in (kind f c)) where
-    pub hands-mark : (m : Mark) → k ≡ kinds.TheVariants.Mark m → r ≡ stepped c (step tokenized (at (place_of s)) (mark (mark_of m)) 0) → r ≡ stepped c (advance f (state_of s) c)
+    pub hands_mark : (m : Mark) → k ≡ kinds.TheVariants.Mark m → r ≡ stepped c (step tokenized (at (place_of s)) (mark (mark_of m)) 0) → r ≡ stepped c (advance f (state_of s) c)
     unfolding kind_of
-    hands-mark m q e = e ∙ ap (stepped c) (sym (advance_meant s f c z a_mark h (sym n ∙ g) (kind_is (kind f c) k _ p q)))
+    hands_mark m q e = e ∙ ap (stepped c) (sym (advance_meant s f c z a_mark h (sym n ∙ g) (kind_is (kind f c) k _ p q)))
 
-    pub hands-slash : k ≡ kinds.TheVariants.Slash → r ≡ stepped c (step tokenized (at (place_of s)) slash 0) → r ≡ stepped c (advance f (state_of s) c)
+    pub hands_slash : k ≡ kinds.TheVariants.Slash → r ≡ stepped c (step tokenized (at (place_of s)) slash 0) → r ≡ stepped c (advance f (state_of s) c)
     unfolding kind_of
-    hands-slash q e = e ∙ ap (stepped c) (sym (advance_meant s f c z a_slash h (sym n ∙ g) (kind_is (kind f c) k _ p q)))
+    hands_slash q e = e ∙ ap (stepped c) (sym (advance_meant s f c z a_slash h (sym n ∙ g) (kind_is (kind f c) k _ p q)))
 
-    pub hands-back : k ≡ kinds.TheVariants.Back → r ≡ stepped c (step tokenized (at (place_of s)) back 0) → r ≡ stepped c (advance f (state_of s) c)
+    pub hands_back : k ≡ kinds.TheVariants.Back → r ≡ stepped c (step tokenized (at (place_of s)) back 0) → r ≡ stepped c (advance f (state_of s) c)
     unfolding kind_of
-    hands-back q e = e ∙ ap (stepped c) (sym (advance_meant s f c z a_back h (sym n ∙ g) (kind_is (kind f c) k _ p q)))
+    hands_back q e = e ∙ ap (stepped c) (sym (advance_meant s f c z a_back h (sym n ∙ g) (kind_is (kind f c) k _ p q)))

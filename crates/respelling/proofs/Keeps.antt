@@ -26,16 +26,16 @@ module _ (d₀ : List ℕ) (from to : ℕ) where
         let e : n + (i - n) ≡ i = omega (arith, k.place) in
         rw (e) at (sym (get_or-drop n d (i - n) 0) ∙ ap (λ l. get_or l (i - n) 0) k.behind ∙ get_or-drop n d₀ (i - n) 0)
 
-    pub keep-more : i < to → Keeping d₀ from to (set d n (get_or d i 0)) (i + 1) (n + 1)
-    keep-more l = record {
+    pub keep_more : i < to → Keeping d₀ from to (set d n (get_or d i 0)) (i + 1) (n + 1)
+    keep_more l = record {
       fill = fill_more k.fill (left_step to i d₀ l h ∙ rw there);
       place = omega (arith, k.place);
       within = omega arith;
       behind = drop-set-lt (n + 1) d n (get_or d i 0) (omega arith) ∙ sym (drop-drop 1 n d) ∙ ap (drop 1) k.behind ∙ drop-drop 1 n d₀;
     }
 
-    pub keep-done : to ≤ i → Puts (drop from (take to d₀)) d₀ 0 n d
-    keep-done l =
+    pub keep_done : to ≤ i → Puts (drop from (take to d₀)) d₀ 0 n d
+    keep_done l =
         let e : length (drop from (take to d₀)) ≡ n = length-drop from (take to d₀) ∙ rw (length-take-le to d₀ h) (omega (arith, k.place, k.within)) in
         record {
           end = omega (arith, e);

@@ -44,9 +44,9 @@ module _ (last : Bool) (s : List ℕ) {out : List ℕ} {at : ℕ} (h : at ≤ le
     step_cut m p k =
         rw f (answered (if_false _ _ _ (le-ltb _ _ l) ∙ if_true _ _ _ (lt-ltb _ _ (rw f at m))) (rw f at p) k (omega arith))
 
-    pub step-last : {e : ℕ} {end : List ℕ} → length s ≤ n → (last && ltb 0 (length s)) ≡ true → Puts (answer s) out at e end → e ≤ at + 8194
+    pub step_last : {e : ℕ} {end : List ℕ} → length s ≤ n → (last && ltb 0 (length s)) ≡ true → Puts (answer s) out at e end → e ≤ at + 8194
         → Stepped (step last (length out - at) s) out at (turn_of (length s) e) end
-    step-last m t p k = answered (opened last s (length out - at) n l f m ∙ if_true _ _ _ t) p k (omega arith)
+    step_last m t p k = answered (opened last s (length out - at) n l f m ∙ if_true _ _ _ t) p k (omega arith)
 
     pub step_waits : length s ≤ n → (last && ltb 0 (length s)) ≡ false → Stepped (step last (length out - at) s) out at (turn_of 0 at) out
     step_waits m t = unanswered (opened last s (length out - at) n l f m ∙ if_false _ _ _ t) h

@@ -21,7 +21,7 @@ use Rattle.sentence.specs.Sentence.{code, Sentence, text, marks, rows}
 use Rattle.sentence.specs.Writing.{marked, reset_tags_of, decision, scored}
 use Rattle.changes.specs.Changes.{Laid}
 use Rattle.changes.proofs.Changed.{text_bare, marks_bare, rows_bare, no_tag_bytes, text_marked, marks_marked}
-use Rattle.changes.proofs.Kept.{stays, cell-starts-reset, cell-lengths-reset, tag-bytes-reset}
+use Rattle.changes.proofs.Kept.{stays, cell_starts_reset, cell_lengths_reset, tag_bytes_reset}
 
 -- a score above zero, and one that is not
 pub above : (z : ℤ) → SFits w32 z → lt_z (to_z w32 0) (to_z w32 (of_z w32 z)) ≡ true → 1 ≡ code (decision z)
@@ -75,5 +75,5 @@ module _ {r : Record} {d : Buffers} {s : Sentence} (h : Holds r d s) where
         answer_is = rw (x, y, no_tag_bytes, ← n, ← b, z);
         leaves =
             in_order (stays h t the_text (rw x)) (stays h t the_types (rw x)) (e ∙ rw (m, length-map (map decision zs) code, length-map zs decision))
-            (stays h t the_char_pos (rw x)) (stays h t the_byte_pos (rw x)) (sym (cell-starts-reset h t y ∙ rw z)) (sym (cell-lengths-reset h t y ∙ rw z)) (sym (tag-bytes-reset h t y));
+            (stays h t the_char_pos (rw x)) (stays h t the_byte_pos (rw x)) (sym (cell_starts_reset h t y ∙ rw z)) (sym (cell_lengths_reset h t y ∙ rw z)) (sym (tag_bytes_reset h t y));
       }

@@ -263,17 +263,17 @@ module _ (m : Mark) where
         rw z (more q (sym (adds_skip _) ∙ sym (gathered_push skip (run f (escaped start) x)) ∙ e))
     pair_reads s t x l q (stops d n) more e = absurd (let z : ◌≡◌ {A = ℕ} 0 1 = cc in omega arith)
 
-    from-escaped : (x : List ℕ) (q : Parsed) → reads f (escaped start) x ≡ got q → Starts q (reads f (escaped (gap m)) x)
+    from_escaped : (x : List ℕ) (q : Parsed) → reads f (escaped start) x ≡ got q → Starts q (reads f (escaped (gap m)) x)
     unfolding run finish ending advance gathered
-    from-escaped [] q e = absurd (let z : ◌≡◌ {A = ℕ} 0 1 = cc in omega arith)
-    from-escaped (c ∷ x) q e =
-        pair_reads _ _ x (size (c ∷ x)) q (nul_pair (eqb c 0) _ _ (escaped_pair f (kind f c) c)) (from-escaped x) e
+    from_escaped [] q e = absurd (let z : ◌≡◌ {A = ℕ} 0 1 = cc in omega arith)
+    from_escaped (c ∷ x) q e =
+        pair_reads _ _ x (size (c ∷ x)) q (nul_pair (eqb c 0) _ _ (escaped_pair f (kind f c) c)) (from_escaped x) e
 
-    from-gap : (x : List ℕ) (q : Parsed) → reads f (at start) x ≡ got q → Starts q (reads f (at (gap m)) x)
+    from_gap : (x : List ℕ) (q : Parsed) → reads f (at start) x ≡ got q → Starts q (reads f (at (gap m)) x)
     unfolding run finish ending advance gathered
-    from-gap [] q e = absurd (let z : ◌≡◌ {A = ℕ} 0 1 = cc in omega arith)
-    from-gap (c ∷ x) q e =
-        pair_reads _ _ x (size (c ∷ x)) q (nul_pair (eqb c 0) _ _ (step_pair f (kind f c) c)) (from-escaped x) e
+    from_gap [] q e = absurd (let z : ◌≡◌ {A = ℕ} 0 1 = cc in omega arith)
+    from_gap (c ∷ x) q e =
+        pair_reads _ _ x (size (c ∷ x)) q (nul_pair (eqb c 0) _ _ (step_pair f (kind f c) c)) (from_escaped x) e
 
 -- ---- what a line was read to, by what its characters gather
 pub record IsRead (f : Form) (x : List ℕ) (s : Sentence) : Type 0 where
@@ -291,10 +291,10 @@ is_read f x s e = long (ltb 4096 (length x)) refl e
     ran (whole l) q h = (gather l, refl, h)
     ran (stopped n l) q h = absurd (let z : ◌≡◌ {A = ℕ} 0 1 = cc in omega arith)
 
-    bad-or : (b : Bool) → ltb (valid_prefix x) (length x) ≡ b → length x ≤ 4096
+    bad_or : (b : Bool) → ltb (valid_prefix x) (length x) ≡ b → length x ≤ 4096
         → (when b then refused 2 (valid_prefix x) else placed (length x) (run f (at start) (scalars x))) ≡ sentence s → IsRead f x s
-    bad-or true q le h = absurd (let z : ◌≡◌ {A = ℕ} 0 1 = cc in omega arith)
-    bad-or false q le h = let (p, u, v) = ran (run f (at start) (scalars x)) refl h in record {
+    bad_or true q le h = absurd (let z : ◌≡◌ {A = ℕ} 0 1 = cc in omega arith)
+    bad_or false q le h = let (p, u, v) = ran (run f (at start) (scalars x)) refl h in record {
       valid = omega (arith, ltb-false (valid_prefix x) (length x) q, valid_within x);
       few = le;
       all = p;
@@ -305,7 +305,7 @@ is_read f x s e = long (ltb 4096 (length x)) refl e
     long : (b : Bool) → ltb 4096 (length x) ≡ b
         → (when b then refused 1 4096 else when ltb (valid_prefix x) (length x) then refused 2 (valid_prefix x) else placed (length x) (run f (at start) (scalars x))) ≡ sentence s → IsRead f x s
     long true q h = absurd (let z : ◌≡◌ {A = ℕ} 0 1 = cc in omega arith)
-    long false q h = bad-or (ltb (valid_prefix x) (length x)) refl (ltb-false 4096 (length x) q) h
+    long false q h = bad_or (ltb (valid_prefix x) (length x)) refl (ltb-false 4096 (length x) q) h
 
 -- the cells and columns that were read
 pub record Found (f : Form) (x : List ℕ) (s : Sentence) : Type 0 where
@@ -325,8 +325,8 @@ found f x s e =
     let i = is_read f x s e in
     record {
       read_is = i;
-      gathers = let o = from-gap none f (scalars x) i.all i.gathers in i.gathers ∙ ap got (o.is ∙ whole_is s o.columns o.cells none (record_is s i.all o.columns o.cells o.is i.builds));
-      behind = λ m. let o = from-gap m f (scalars x) i.all i.gathers in o.same ∙ ap got (whole_is s o.columns o.cells m (record_is s i.all o.columns o.cells o.is i.builds));
+      gathers = let o = from_gap none f (scalars x) i.all i.gathers in i.gathers ∙ ap got (o.is ∙ whole_is s o.columns o.cells none (record_is s i.all o.columns o.cells o.is i.builds));
+      behind = λ m. let o = from_gap m f (scalars x) i.all i.gathers in o.same ∙ ap got (whole_is s o.columns o.cells m (record_is s i.all o.columns o.cells o.is i.builds));
     }
 
 -- ---- the law

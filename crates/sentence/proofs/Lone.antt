@@ -114,10 +114,10 @@ lone_dropped f x s e h = on (lone_end f (scalars x) (at start) h)
 
 -- so a line that does not end in a backslash does not end so
 pub plain_end : (f : Form) (x : List ℕ) (s : Sentence) → read f x ≡ sentence s → (get_or x (length x - 1) 0 ≡ 92 → ⊥) → ends_lone f x ≡ false
-plain_end f x s e h = untrue (ends_lone f x) (λ i. let (w, b, r, l) = lone_dropped f x s e i in h (last-is w b))
+plain_end f x s e h = untrue (ends_lone f x) (λ i. let (w, b, r, l) = lone_dropped f x s e i in h (last_is w b))
   where
-    last-is : (w : List ℕ) → x ≡ w ++ (92 ∷ []) → get_or x (length x - 1) 0 ≡ 92
-    last-is w b =
+    last_is : (w : List ℕ) → x ≡ w ++ (92 ∷ []) → get_or x (length x - 1) 0 ≡ 92
+    last_is w b =
         let n : length x - 1 ≡ length w = omega (arith, ap length b, length-append w (92 ∷ [])) in
         rw (n, b) (get_or-append_seam w 92 [] 0)
 

@@ -424,15 +424,15 @@ rest_answers f x t ts n (next m s) le g w = (
     columns_fit = omega (arith, g.narrow);
     bytes_fit = omega (arith, g.light);
   },
-  read-in f w,
+  read_in f w,
   omega (arith, g.light),
   omega (arith, g.narrow),
 )
   where
-    read-in : (f : Form) → (f ≡ tokenized → Whole s) → ReadIn f s
-    read-in raw w = tt
-    read-in tokenized w = w refl
-    read-in partial w = tt
+    read_in : (f : Form) → (f ≡ tokenized → Whole s) → ReadIn f s
+    read_in raw w = tt
+    read_in tokenized w = w refl
+    read_in partial w = tt
 
 parsed_answers : (f : Form) (x : List ℕ) (p : Parsed) → size x ≤ 4096 → GoodParsed x p → (f ≡ tokenized → ShapedParsed start p) → Answers f (size x) (built p)
 parsed_answers f x (parsed t ts n r) le g w = rest_answers f x t ts n r le g w

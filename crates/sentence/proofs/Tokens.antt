@@ -158,8 +158,8 @@ module _ (ms : List Mark) where
   -- what holds where a step is done, and before a served token where it holds after it, holds of the tokens onward
   module _ (P : ℕ → List Token → Type 0) (ends : (p : ℕ) → p ≤ n → next_token_of ms n p ≡ done n → P p [])
       (goes : (p b e : ℕ) (ts : List Token) → next_token_of ms n p ≡ serves (token b e) → InOrder ms p b e → P e ts → P p (token b e ∷ ts)) where
-    pub by-steps : (p : ℕ) → p ≤ n → P p (onward ms p)
-    by-steps = by_size (λ p. n - p) (λ p. p ≤ n → P p (onward ms p)) (λ p below h. on p below h (next_token_of ms n p) refl)
+    pub by_steps : (p : ℕ) → p ≤ n → P p (onward ms p)
+    by_steps = by_size (λ p. n - p) (λ p. p ≤ n → P p (onward ms p)) (λ p below h. on p below h (next_token_of ms n p) refl)
       where
         on : (p : ℕ) → ((y : ℕ) → n - y < n - p → y ≤ n → P y (onward ms y)) → p ≤ n → (s : Served) → next_token_of ms n p ≡ s → P p (onward ms p)
         on p below h (serves (token b e)) s =
@@ -171,16 +171,16 @@ module _ (ms : List Mark) where
 
   -- the tokens stand in order
   pub onward_ordered : (p : ℕ) → p ≤ n → Ordered p n (onward ms p)
-  onward_ordered = by-steps (λ p ts. Ordered p n ts) (λ p h s. h) (λ p b e ts s i k. (i.from, i.some, k))
+  onward_ordered = by_steps (λ p ts. Ordered p n ts) (λ p h s. h) (λ p b e ts s i k. (i.from, i.some, k))
 
   -- they are at most as many as the characters left
   pub onward_few : (p : ℕ) → p ≤ n → p + length (onward ms p) ≤ n
-  onward_few = by-steps (λ p ts. p + length ts ≤ n) (λ p h s. omega arith) (λ p b e ts s i k. omega arith)
+  onward_few = by_steps (λ p ts. p + length ts ≤ n) (λ p h s. omega arith) (λ p b e ts s i k. omega arith)
 
   -- a character is in at most one of them
   onward_single : (c p : ℕ) → p ≤ n → Single c p (onward ms p)
   unfolding holding when◌then◌else◌
-  onward_single c = by-steps (λ p ts. Single c p ts) (λ p h s. record { none_before = λ l. refl; one = omega arith }) more
+  onward_single c = by_steps (λ p ts. Single c p ts) (λ p h s. record { none_before = λ l. refl; one = omega arith }) more
     where
       more : (p b e : ℕ) (ts : List Token) → next_token_of ms n p ≡ serves (token b e) → InOrder ms p b e → Single c e ts → Single c p (token b e ∷ ts)
       more p b e ts s i k = on (leb b c) (ltb c e) refl refl
@@ -202,7 +202,7 @@ module _ (ms : List Mark) where
   -- stepping from p serves the tokens onward, each once and in order, and is then done at the text's end
   pub answers_onward : (p : ℕ) → p ≤ n → (k : ℕ) → n - p < k → answers k ms p ≡ map serves (onward ms p) ++ (done n ∷ [])
   unfolding answers answers_of
-  answers_onward = by-steps (λ p ts. (k : ℕ) → n - p < k → answers k ms p ≡ map serves ts ++ (done n ∷ [])) ended more
+  answers_onward = by_steps (λ p ts. (k : ℕ) → n - p < k → answers k ms p ≡ map serves ts ++ (done n ∷ [])) ended more
     where
       ended : (p : ℕ) → p ≤ n → next_token_of ms n p ≡ done n → (k : ℕ) → n - p < k → answers k ms p ≡ done n ∷ []
       ended p h s zero l = absurd (omega arith)

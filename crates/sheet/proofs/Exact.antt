@@ -270,8 +270,8 @@ module _ (r : Record) (d : Buffers) (cs : List ℕ) (ms : List Mark) (ts : List 
     g_is : r.g ≡ tag_bytes (rows_of x)
     g_is = rw k.rows_is (sym how_many_tag_bytes)
 
-    well-formed : Formed (record { cells = x; columns = r.columns })
-    well-formed =
+    well_formed : Formed (record { cells = x; columns = r.columns })
+    well_formed =
         record {
           cells_are = k.cells_are;
           text_fits = omega (arith, b_is, h.limits);
@@ -286,7 +286,7 @@ module _ (r : Record) (d : Buffers) (cs : List ℕ) (ms : List Mark) (ts : List 
     unfolding lay record_of
     made =
         record {
-          formed = well-formed;
+          formed = well_formed;
           record_is = λ i. record { n = n_is i; b = b_is i; columns = r.columns; cells = cells_is i; g = g_is i };
           lies =
               in_order

@@ -67,22 +67,22 @@ module _ (r : Record) (d : Buffers) where
     no_text e = rw (← t, not-true text-ok e)
 
     module _ (marks-ok : Bool) (t-ok : not text-ok ≡ false) (m : marks-ok ≡ are_marks (take (r.n - 1) d.boundaries_buf)) where
-      pub no-marks : not marks-ok ≡ true → false ≡ is_laid r d
+      pub no_marks : not marks-ok ≡ true → false ≡ is_laid r d
       unfolding is_laid
-      no-marks e = rw (← t, not-false text-ok t-ok, ← m, not-true marks-ok e)
+      no_marks e = rw (← t, not-false text-ok t-ok, ← m, not-true marks-ok e)
 
       pub laid_is : (cells-ok : Bool) → not marks-ok ≡ false → cells-ok ≡ are_cells (take r.g d.tag_bytes_buf) 0 (take r.cells d.cell_starts_buf) (take r.cells d.cell_lengths_buf) → cells-ok ≡ is_laid r d
       unfolding is_laid
       laid_is cells-ok m-ok e = rw (← t, not-false text-ok t-ok, ← m, not-false marks-ok m-ok) e
 
   module _ (ok : Bool) (e : ok ≡ (in_limits r && room_for r d)) where
-    pub no-fit : not ok ≡ true → false ≡ is_sheet r d
+    pub no_fit : not ok ≡ true → false ≡ is_sheet r d
     unfolding is_sheet
-    no-fit t = rw (← e, not-true ok t)
+    no_fit t = rw (← e, not-true ok t)
 
-    pub room-met : not ok ≡ false → Room r d
-    room-met t = let k = (and-eq-true_iff (in_limits r) (room_for r d)).0 (sym e ∙ not-false ok t) in room_is r d k.0 k.1
+    pub room_met : not ok ≡ false → Room r d
+    room_met t = let k = (and-eq-true_iff (in_limits r) (room_for r d)).0 (sym e ∙ not-false ok t) in room_is r d k.0 k.1
 
-    pub sheet-is : (laid : Bool) → not ok ≡ false → laid ≡ is_laid r d → laid ≡ is_sheet r d
+    pub sheet_is : (laid : Bool) → not ok ≡ false → laid ≡ is_laid r d → laid ≡ is_sheet r d
     unfolding is_sheet
-    sheet-is laid t q = rw (← e, not-false ok t) q
+    sheet_is laid t q = rw (← e, not-false ok t) q

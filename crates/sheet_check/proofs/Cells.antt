@@ -100,24 +100,24 @@ module _ (s bs ls : List ℕ) (from e : ℕ) (p : Row from s bs ls) where
   cells_start = record { is = refl; inside = p.inside }
 
   module _ (g i : ℕ) (h : Celled s bs ls from e g i) where
-    cells-step : i < length ls
+    cells_step : i < length ls
         → cells_to s e from bs ls ≡ (is_cell s g (get_or bs i 0) (get_or ls i 0) && cells_to s e (g + get_or ls i 0) (drop (i + 1) bs) (drop (i + 1) ls))
     unfolding cells_to
-    cells-step k = h.is ∙ rw (drop_step i bs (omega (arith, p.even)), drop_step i ls k)
+    cells_step k = h.is ∙ rw (drop_step i bs (omega (arith, p.even)), drop_step i ls k)
 
-    pub cells-go : (ok : Bool) → i < length ls → ok ≡ is_cell s g (get_or bs i 0) (get_or ls i 0) → not ok ≡ false
+    pub cells_go : (ok : Bool) → i < length ls → ok ≡ is_cell s g (get_or bs i 0) (get_or ls i 0) → not ok ≡ false
         → Celled s bs ls from e (g + get_or ls i 0) (i + 1)
-    cells-go ok k q t =
+    cells_go ok k q t =
         let o : is_cell s g (get_or bs i 0) (get_or ls i 0) ≡ true = sym q ∙ not-false ok t in
-        record { is = cells-step k ∙ rw o; inside = cell_within s g (get_or bs i 0) (get_or ls i 0) o }
+        record { is = cells_step k ∙ rw o; inside = cell_within s g (get_or bs i 0) (get_or ls i 0) o }
 
-    pub cells-no : (ok : Bool) → i < length ls → ok ≡ is_cell s g (get_or bs i 0) (get_or ls i 0) → not ok ≡ true
+    pub cells_no : (ok : Bool) → i < length ls → ok ≡ is_cell s g (get_or bs i 0) (get_or ls i 0) → not ok ≡ true
         → false ≡ cells_to s e from bs ls
-    cells-no ok k q t = sym (cells-step k ∙ rw (← q, not-true ok t))
+    cells_no ok k q t = sym (cells_step k ∙ rw (← q, not-true ok t))
 
-    pub cells-done : length ls ≤ i → eqb g e ≡ cells_to s e from bs ls
+    pub cells_done : length ls ≤ i → eqb g e ≡ cells_to s e from bs ls
     unfolding cells_to
-    cells-done k = sym (h.is ∙ rw (drop_none i bs (omega (arith, p.even)), drop_none i ls k))
+    cells_done k = sym (h.is ∙ rw (drop_none i bs (omega (arith, p.even)), drop_none i ls k))
 
 -- ---- absent cells
 module _ (g : ℕ) (bs ls : List ℕ) where
@@ -173,8 +173,8 @@ module _ (s bs ls : List ℕ) (n : length bs ≡ length ls) where
             let x = cells_split s (length s) w g (drop i bs) (drop i ls) (simp length-drop (rw n)) (simp length-drop m) in
             h.is ∙ rw (get_or-drop i bs w 0, drop-drop, drop-drop) at x ∙ rw (q, k)
 
-        pub rows-go : not r ≡ false → Rows s bs ls (get_or bs (i + w) 0) (i + w)
-        rows-go u =
+        pub rows_go : not r ≡ false → Rows s bs ls (get_or bs (i + w) 0) (i + w)
+        rows_go u =
             let o = not-false r u in
             record {
               is = rows_step ∙ rw o;
@@ -182,15 +182,15 @@ module _ (s bs ls : List ℕ) (n : length bs ≡ length ls) where
               counted = omega arith;
             }
 
-        pub rows-no : not r ≡ true → false ≡ are_cells s 0 bs ls
-        rows-no u = sym (rows_step ∙ rw (not-true r u))
+        pub rows_no : not r ≡ true → false ≡ are_cells s 0 bs ls
+        rows_no u = sym (rows_step ∙ rw (not-true r u))
 
     -- all that is left
-    pub rows-rest : Row g s (take (length bs - i) (drop i bs)) (take (length ls - i) (drop i ls))
-    rows-rest = record { inside = h.inside; even = simp (length-take, length-drop) (rw n) }
+    pub rows_rest : Row g s (take (length bs - i) (drop i bs)) (take (length ls - i) (drop i ls))
+    rows_rest = record { inside = h.inside; even = simp (length-take, length-drop) (rw n) }
 
-    pub rows-done : (r : Bool) → r ≡ cells_to s (length s) g (take (length bs - i) (drop i bs)) (take (length ls - i) (drop i ls)) → r ≡ are_cells s 0 bs ls
-    rows-done r q =
+    pub rows_done : (r : Bool) → r ≡ cells_to s (length s) g (take (length bs - i) (drop i bs)) (take (length ls - i) (drop i ls)) → r ≡ are_cells s 0 bs ls
+    rows_done r q =
         let all-starts = take_all (length bs - i) (drop i bs) (simp length-drop (omega arith)) in
         let all-lengths = take_all (length ls - i) (drop i ls) (simp length-drop (omega arith)) in
         rw (all-starts, all-lengths) at q ∙ sym h.is

@@ -54,34 +54,34 @@ module _ (d : List ℕ) (at n : ℕ) (f : (1 ≤ n) × (n ≤ 4) × (at + n ≤ 
       rw k (zeros_take (n - 3) d (at + 2) (omega (arith, f)) ∙ rw m)
 
   module _ (h : n ≡ 1 → ⊥) where
-    pub inner-no : (get_or d (at + 1) 0 ≡ 0 → ⊥) → false ≡ zeros (take (at + n - (at + 1)) (drop (at + 1) d))
-    inner-no e = sym (inner_first (omega (arith, f)) ∙ rw (ne_eqb (get_or d (at + 1) 0) 0 e))
+    pub inner_no : (get_or d (at + 1) 0 ≡ 0 → ⊥) → false ≡ zeros (take (at + n - (at + 1)) (drop (at + 1) d))
+    inner_no e = sym (inner_first (omega (arith, f)) ∙ rw (ne_eqb (get_or d (at + 1) 0) 0 e))
 
     module _ (e : get_or d (at + 1) 0 ≡ 0) where
       passed : zeros (take (at + n - (at + 1)) (drop (at + 1) d)) ≡ zeros (take (n - 2) (drop (at + 2) d))
       passed = inner_first (omega (arith, f)) ∙ rw (eq-eqb (get_or d (at + 1) 0) 0 e)
 
-      pub inner-two : n ≡ 2 → true ≡ zeros (take (at + n - (at + 1)) (drop (at + 1) d))
+      pub inner_two : n ≡ 2 → true ≡ zeros (take (at + n - (at + 1)) (drop (at + 1) d))
       unfolding zeros
-      inner-two q = let k : n - 2 ≡ 0 = omega arith in sym (passed ∙ rw k)
+      inner_two q = let k : n - 2 ≡ 0 = omega arith in sym (passed ∙ rw k)
 
       module _ (q : n ≡ 2 → ⊥) where
-        pub inner-no-2 : (get_or d (at + 2) 0 ≡ 0 → ⊥) → false ≡ zeros (take (at + n - (at + 1)) (drop (at + 1) d))
-        inner-no-2 g = sym (passed ∙ inner_second (omega (arith, f)) ∙ rw (ne_eqb (get_or d (at + 2) 0) 0 g))
+        pub inner_no_2 : (get_or d (at + 2) 0 ≡ 0 → ⊥) → false ≡ zeros (take (at + n - (at + 1)) (drop (at + 1) d))
+        inner_no_2 g = sym (passed ∙ inner_second (omega (arith, f)) ∙ rw (ne_eqb (get_or d (at + 2) 0) 0 g))
 
         module _ (g : get_or d (at + 2) 0 ≡ 0) where
-          passed-2 : zeros (take (at + n - (at + 1)) (drop (at + 1) d)) ≡ zeros (take (n - 3) (drop (at + 3) d))
-          passed-2 = passed ∙ inner_second (omega (arith, f)) ∙ rw (eq-eqb (get_or d (at + 2) 0) 0 g)
+          passed_2 : zeros (take (at + n - (at + 1)) (drop (at + 1) d)) ≡ zeros (take (n - 3) (drop (at + 3) d))
+          passed_2 = passed ∙ inner_second (omega (arith, f)) ∙ rw (eq-eqb (get_or d (at + 2) 0) 0 g)
 
-          pub inner-three : n ≡ 3 → true ≡ zeros (take (at + n - (at + 1)) (drop (at + 1) d))
+          pub inner_three : n ≡ 3 → true ≡ zeros (take (at + n - (at + 1)) (drop (at + 1) d))
           unfolding zeros
-          inner-three r = let k : n - 3 ≡ 0 = omega arith in sym (passed-2 ∙ rw k)
+          inner_three r = let k : n - 3 ≡ 0 = omega arith in sym (passed_2 ∙ rw k)
 
           pub inner_last : (n ≡ 3 → ⊥) → eqb (get_or d (at + 3) 0) 0 ≡ zeros (take (at + n - (at + 1)) (drop (at + 1) d))
           unfolding zeros
           inner_last r =
               let k : n - 3 ≡ suc 0 = omega (arith, f) in
-              sym (passed-2 ∙ rw k (zeros_take 0 d (at + 3) (omega (arith, f))) ∙ and-true _)
+              sym (passed_2 ∙ rw k (zeros_take 0 d (at + 3) (omega (arith, f))) ∙ and-true _)
 
 pub marks_step : (d : List ℕ) (i : ℕ) → i < length d → are_marks (drop i d) ≡ (leb (get_or d i 0) 2 && are_marks (drop (i + 1) d))
 unfolding are_marks
@@ -190,23 +190,23 @@ module _ (v t i at n : ℕ) (ys ps qs : List ℕ) where
   char_nul a = rw (eq-eqb v 0 a)
 
   module _ (a : v ≡ 0 → ⊥) where
-    pub char-type : (t ≡ get_or ys i 0 → ⊥) → false ≡ is_char v t i at n ys ps qs
+    pub char_type : (t ≡ get_or ys i 0 → ⊥) → false ≡ is_char v t i at n ys ps qs
     unfolding is_char
-    char-type b = rw (ne_eqb v 0 a, ne_eqb t (get_or ys i 0) b)
+    char_type b = rw (ne_eqb v 0 a, ne_eqb t (get_or ys i 0) b)
 
     module _ (b : t ≡ get_or ys i 0) where
-      pub char-start : (at ≡ get_or ps i 0 → ⊥) → false ≡ is_char v t i at n ys ps qs
+      pub char_start : (at ≡ get_or ps i 0 → ⊥) → false ≡ is_char v t i at n ys ps qs
       unfolding is_char
-      char-start c = rw (ne_eqb v 0 a, eq-eqb t (get_or ys i 0) b, ne_eqb at (get_or ps i 0) c)
+      char_start c = rw (ne_eqb v 0 a, eq-eqb t (get_or ys i 0) b, ne_eqb at (get_or ps i 0) c)
 
       module _ (c : at ≡ get_or ps i 0) where
-        pub char-number : (i ≡ get_or qs at 0 → ⊥) → false ≡ is_char v t i at n ys ps qs
+        pub char_number : (i ≡ get_or qs at 0 → ⊥) → false ≡ is_char v t i at n ys ps qs
         unfolding is_char
-        char-number d = rw (ne_eqb v 0 a, eq-eqb t (get_or ys i 0) b, eq-eqb at (get_or ps i 0) c, ne_eqb i (get_or qs at 0) d)
+        char_number d = rw (ne_eqb v 0 a, eq-eqb t (get_or ys i 0) b, eq-eqb at (get_or ps i 0) c, ne_eqb i (get_or qs at 0) d)
 
-        pub char-inner : (r : Bool) → i ≡ get_or qs at 0 → r ≡ zeros (take (at + n - (at + 1)) (drop (at + 1) qs)) → r ≡ is_char v t i at n ys ps qs
+        pub char_inner : (r : Bool) → i ≡ get_or qs at 0 → r ≡ zeros (take (at + n - (at + 1)) (drop (at + 1) qs)) → r ≡ is_char v t i at n ys ps qs
         unfolding is_char
-        char-inner r d e = rw (ne_eqb v 0 a, eq-eqb t (get_or ys i 0) b, eq-eqb at (get_or ps i 0) c, eq-eqb i (get_or qs at 0) d) e
+        char_inner r d e = rw (ne_eqb v 0 a, eq-eqb t (get_or ys i 0) b, eq-eqb at (get_or ps i 0) c, eq-eqb i (get_or qs at 0) d) e
 
 -- ---- the text with its types and positions
 same_zeros : (k : ℕ) (xs ys : List ℕ) → k ≤ length ys → same (replicate k 0 ++ xs) ys ≡ (zeros (take k ys) && same xs (drop k ys))
@@ -255,18 +255,18 @@ scalars_char s at v n d p q = rw (chars_char s at v n (sym p ∙ q))
 
 module _ (s ys ps qs : List ℕ) (at i : ℕ) (f : Places s ys ps qs) (h : Reading s ys ps qs at i) where
   module _ (v n : ℕ) (d : Decoded) (p : d ≡ decode_at s at) (q : d ≡ Char v n) where
-    pub read-few : length ys ≤ i → false ≡ is_text s ys ps qs
+    pub read_few : length ys ≤ i → false ≡ is_text s ys ps qs
     unfolding text_from same
-    read-few l = sym (h.is ∙ rw (scalars_char s at v n d p q, drop_none i ys l, and-false))
+    read_few l = sym (h.is ∙ rw (scalars_char s at v n d p q, drop_none i ys l, and-false))
 
     pub read_fits : i < length ys → CharFits i at n ys ps qs
     read_fits l =
         let r = reach s at v n d p q in
         record { some = r.some; few = omega (arith, r.wide, width_small v); types_fit = l; starts_fit = omega (arith, f.starts_long); numbers_fit = omega (arith, f.numbers_long, r.within) }
 
-    read-char : i < length ys → is_text s ys ps qs ≡ (is_char v (type_of v) i at n ys ps qs && text_from s ys ps qs (at + n) (i + 1))
+    read_char : i < length ys → is_text s ys ps qs ≡ (is_char v (type_of v) i at n ys ps qs && text_from s ys ps qs (at + n) (i + 1))
     unfolding text_from starts numbers is_char
-    read-char l =
+    read_char l =
         let r = reach s at v n d p q in
         let k : at + n - (at + 1) ≡ n - 1 = omega (arith, r.some) in
         let m : at + 1 + (n - 1) ≡ at + n = omega (arith, r.some) in
@@ -285,13 +285,13 @@ module _ (s ys ps qs : List ℕ) (at i : ℕ) (f : Places s ys ps qs) (h : Readi
 
     module _ (t : ℕ) (ok : Bool) (l : i < length ys) (e : t ≡ type_of v) (o : ok ≡ is_char v t i at n ys ps qs) where
       tested : is_text s ys ps qs ≡ (ok && text_from s ys ps qs (at + n) (i + 1))
-      tested = read-char l ∙ rw (o, e)
+      tested = read_char l ∙ rw (o, e)
 
       pub read_no : not ok ≡ true → false ≡ is_text s ys ps qs
       read_no u = sym (tested ∙ rw (not-true ok u))
 
-      pub read-go : not ok ≡ false → Reading s ys ps qs (at + n) (i + 1)
-      read-go u = record { is = tested ∙ rw (not-false ok u); inside = (reach s at v n d p q).within; counted = omega arith }
+      pub read_go : not ok ≡ false → Reading s ys ps qs (at + n) (i + 1)
+      read_go u = record { is = tested ∙ rw (not-false ok u); inside = (reach s at v n d p q).within; counted = omega arith }
 
   pub read_bad : (d : Decoded) → at < length s → d ≡ decode_at s at → d ≡ Bad → false ≡ is_text s ys ps qs
   unfolding text_from

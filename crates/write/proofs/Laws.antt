@@ -30,15 +30,15 @@ module _ (r : Record) (d : Buffers) (outside : Bool) (first : ℕ) (w out : List
   put_13 h q = record { answer_is = rw (← e, h) q; out_is = rw (← e, h) }
 
   module _ (h : not g ≡ false) where
-    pub put-14 : {a : Number} → outside ≡ true → a ≡ Refused (refusal 14 first) → PutsLine r d outside first w out a out
+    pub put_14 : {a : Number} → outside ≡ true → a ≡ Refused (refusal 14 first) → PutsLine r d outside first w out a out
     unfolding line_order verdict when◌then◌else◌
-    put-14 o q = record { answer_is = rw (← e, h, o) q; out_is = rw (← e, h, o) }
+    put_14 o q = record { answer_is = rw (← e, h, o) q; out_is = rw (← e, h, o) }
 
     -- n is the length that is lacking
     module _ (o : outside ≡ false) (n : ℕ) (m : n ≡ short_of (length out) (length w)) where
-      pub put-12 : {a : Number} → 0 < n → a ≡ Refused (refusal 12 n) → PutsLine r d outside first w out a out
+      pub put_12 : {a : Number} → 0 < n → a ≡ Refused (refusal 12 n) → PutsLine r d outside first w out a out
       unfolding line_order verdict when◌then◌else◌
-      put-12 l q =
+      put_12 l q =
           let k = short_some (length out) (length w) m l in
           let t = lt-ltb (length out) (length w) k.1 in
           record { answer_is = rw (← e, h, o, t, ← k.0) q; out_is = rw (← e, h, o, t) }

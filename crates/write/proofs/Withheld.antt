@@ -24,7 +24,7 @@ use Rattle.write_items.proofs.Room.{short_none}
 use Rattle.write_partial.specs.Line.{shown_of, Asked}
 use Rattle.write_partial.proofs.Widest.{columns_few}
 use Rattle.write.specs.Answers.{copy_of, no_range, PutsLine, Withholds}
-use Rattle.write.proofs.Laws.{put-14, put-12, put_line}
+use Rattle.write.proofs.Laws.{put_14, put_12, put_line}
 
 -- a range that is one of n characters
 inside : (b e n : ℕ) → no_range b e n ≡ false → (b ≤ e) × (e ≤ n)
@@ -47,15 +47,15 @@ module _ (r : Record) (d : Buffers) (b e : ℕ) (out : List ℕ) (g : Bool) (p :
   told z = ap (no_range b e) (sym (bounds (checked r d g p h)).n_is) ∙ sym o ∙ z
 
   pub withhold_14 : {a : Number} → t ≡ true → a ≡ Refused (refusal 14 b) → Withholds r d b e out a out
-  withhold_14 z q = put-14 r d outside b (copy_of r d b e) out g p h (told z) q
+  withhold_14 z q = put_14 r d outside b (copy_of r d b e) out g p h (told z) q
 
   -- c is the columns that are left
   module _ (z : t ≡ false) {c : ℕ} (w : c ≡ widest (hidden b e 0 (spell r d).cells)) where
     ranged : (b ≤ e) × (e ≤ r.n)
     ranged = inside b e r.n (sym o ∙ z)
 
-    pub withhold-asks : Sheet r d × Asked r d c b e
-    withhold-asks =
+    pub withhold_asks : Sheet r d × Asked r d c b e
+    withhold_asks =
         let k = checked r d g p h in
         (k, record { ordered = ranged.0; inside = ranged.1; enough = omega (arith, w); narrow = omega (arith, w, columns_few b e k) })
 
@@ -69,11 +69,11 @@ module _ (r : Record) (d : Buffers) (b e : ℕ) (out : List ℕ) (g : Bool) (p :
 
     -- n is the length that is lacking
     module _ (n : ℕ) (m : n ≡ short_of (length out) (length shown)) where
-      pub withhold-12 : {a : Number} → 0 < n → a ≡ Refused (refusal 12 n) → Withholds r d b e out a out
-      withhold-12 l q = copied (put-12 r d outside b shown out g p h (told z) n m l q)
+      pub withhold_12 : {a : Number} → 0 < n → a ≡ Refused (refusal 12 n) → Withholds r d b e out a out
+      withhold_12 l q = copied (put_12 r d outside b shown out g p h (told z) n m l q)
 
-      pub withhold-room : n ≤ 0 → Sheet r d × (b ≤ e) × (e ≤ r.n) × (length shown ≤ length out)
-      withhold-room l = (checked r d g p h, ranged.0, ranged.1, short_none (length out) (length shown) m l)
+      pub withhold_room : n ≤ 0 → Sheet r d × (b ≤ e) × (e ≤ r.n) × (length shown ≤ length out)
+      withhold_room l = (checked r d g p h, ranged.0, ranged.1, short_none (length out) (length shown) m l)
 
-      pub withhold-line : {a : ℕ} {out' : List ℕ} → n ≤ 0 → Lined shown out out' a → Withholds r d b e out (Is a) out'
-      withhold-line l v = copied (put_line r d outside b shown out g p h (told z) n m l v)
+      pub withhold_line : {a : ℕ} {out' : List ℕ} → n ≤ 0 → Lined shown out out' a → Withholds r d b e out (Is a) out'
+      withhold_line l v = copied (put_line r d outside b shown out g p h (told z) n m l v)

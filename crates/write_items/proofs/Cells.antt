@@ -63,21 +63,21 @@ module _ (ls : List ℕ) (k : ℕ) where
 
   module _ (ss : List ℕ) where
     -- behind them no bytes follow
-    pub used-bytes : (n : ℕ) → Follow ss ls (k + n) → bytes_to ss ls (k + used_at ls k n) ≡ bytes_to ss ls (k + n)
+    pub used_bytes : (n : ℕ) → Follow ss ls (k + n) → bytes_to ss ls (k + used_at ls k n) ≡ bytes_to ss ls (k + n)
     unfolding used_at
-    used-bytes zero h = refl
-    used-bytes (suc n) h = if_cases (λ (x : ℕ). bytes_to ss ls (k + x) ≡ bytes_to ss ls (k + suc n)) (eqb (get_or ls (k + n) 0) 0) (used_at ls k n) (suc n)
-        (λ e. omega (arith, used-bytes n (fewer (k + n) (omega arith) h), bytes_more ss ls k n h, eqb-true (get_or ls (k + n) 0) 0 e))
+    used_bytes zero h = refl
+    used_bytes (suc n) h = if_cases (λ (x : ℕ). bytes_to ss ls (k + x) ≡ bytes_to ss ls (k + suc n)) (eqb (get_or ls (k + n) 0) 0) (used_at ls k n) (suc n)
+        (λ e. omega (arith, used_bytes n (fewer (k + n) (omega arith) h), bytes_more ss ls k n h, eqb-true (get_or ls (k + n) 0) 0 e))
         (λ e. refl)
 
     -- none is listed where they have no bytes
-    pub used-none : (n : ℕ) → Follow ss ls (k + n) → bytes_to ss ls (k + n) ≤ bytes_to ss ls k → used_at ls k n ≡ 0
+    pub used_none : (n : ℕ) → Follow ss ls (k + n) → bytes_to ss ls (k + n) ≤ bytes_to ss ls k → used_at ls k n ≡ 0
     unfolding used_at
-    used-none zero h l = refl
-    used-none (suc n) h l =
+    used_none zero h l = refl
+    used_none (suc n) h l =
         let f = fewer (k + n) (omega arith) h in
         let z : get_or ls (k + n) 0 ≡ 0 = omega (arith, bytes_more ss ls k n h, bytes_rise ss ls k n f) in
-        used_skip n z ∙ used-none n f (omega (arith, bytes_more ss ls k n h))
+        used_skip n z ∙ used_none n f (omega (arith, bytes_more ss ls k n h))
 
 -- ---- a row of m cells
 pub count_empty : (ls : List ℕ) (m i : ℕ) → m ≡ 0 → 0 ≡ count_at ls m i
@@ -95,7 +95,7 @@ module _ {ss ls : List ℕ} (m i : ℕ) (h : Follow ss ls (i * m + m)) where
   count_none z a e =
       let q : i * m + m ≡ suc (i * m + (m - 1)) = omega arith in
       let t : bytes_to ss ls (i * m + m) ≡ get_or ss (i * m + (m - 1)) 0 + get_or ls (i * m + (m - 1)) 0 = rw q in
-      sym (used-none ls (i * m) ss m h (omega (arith, t, a, e, h.follows (i * m) (omega arith))))
+      sym (used_none ls (i * m) ss m h (omega (arith, t, a, e, h.follows (i * m) (omega arith))))
 
 -- ---- a loop that looks for the last listed cell: it is among the first n
 pub record Looking (ls : List ℕ) (k m n : ℕ) : Type 0 where

@@ -14,7 +14,7 @@ use Rattle.sentence.specs.Writing.{escape, write_tags}
 use Rattle.sentence.proofs.Trips.{escape_append}
 use Rattle.sheet.proofs.Look.{stretch_left}
 use Rattle.write_items.specs.Items.{cell_tag, cell_tags, row_at, count_at, bytes_to, row_line, Lie, RowLies, TextLies, text_at, char_line, token_line}
-use Rattle.write_items.proofs.Cells.{fewer_lie, bytes_next, bytes_rise, used_few, used-bytes}
+use Rattle.write_items.proofs.Cells.{fewer_lie, bytes_next, bytes_rise, used_few, used_bytes}
 use Rattle.write_items.proofs.Tags.{row_split}
 
 -- a slice from a up to c is one up to b and one from there
@@ -73,7 +73,7 @@ module _ (ss ls d : List ℕ) (m i : ℕ) {x y : ℕ} (p : x ≡ bytes_to ss ls 
       let v = write_tags f (cell_tags ss ls d (i * m) c) in
       let z = replicate {A = ℕ} (n - c) 47 in
       rw (rw e at (row_split f n ss ls d m i refl), length-append v z, length-replicate {A = ℕ} (n - c) 47, p, q)
-      (omega (arith, rw (used-bytes ls (i * m) ss m h.cells) at g.bytes))
+      (omega (arith, rw (used_bytes ls (i * m) ss m h.cells) at g.bytes))
 
 -- so, where all its cells are written, a slash for each, and those bytes
 module _ (ss ls d : List ℕ) (m i : ℕ) {x y t : ℕ} (p : x ≡ bytes_to ss ls (i * m)) (q : y ≡ bytes_to ss ls (i * m + m)) (h : RowLies ss ls d m i)

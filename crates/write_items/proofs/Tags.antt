@@ -40,29 +40,29 @@ tags_start f ss ls d k e out at h p r = record { upto = h; lies = p; writing = w
 module _ {f : Form} {ss ls d : List ℕ} {e : ℕ} {out₀ : List ℕ} {at : ℕ} {all out : List ℕ} {j n : ℕ} (t : Tagging f ss ls d e out₀ at all out j n) where
   -- the next tag, whose bytes are those from `from` up to `to`
   module _ {from to : ℕ} (h : j < e) (p : from ≡ get_or ss j 0) (q : to ≡ get_or ss j 0 + get_or ls j 0) where
-    tag-left : write_tags f (cell_tags ss ls d j (e - j)) ≡ 47 ∷ (escape f (drop from (take to d)) ++ write_tags f (cell_tags ss ls d (j + 1) (e - (j + 1))))
+    tag_left : write_tags f (cell_tags ss ls d j (e - j)) ≡ 47 ∷ (escape f (drop from (take to d)) ++ write_tags f (cell_tags ss ls d (j + 1) (e - (j + 1))))
     unfolding write_tags cell_tag
-    tag-left = rw (tags_step ss ls d j e h, p, q)
+    tag_left = rw (tags_step ss ls d j e h, p, q)
 
-    pub tag-byte : n < length out
-    tag-byte = omega (arith, write_fits t.writing (47 ∷ []) _ tag-left)
+    pub tag_byte : n < length out
+    tag_byte = omega (arith, write_fits t.writing (47 ∷ []) _ tag_left)
 
-    pub tag-part : (from ≤ to) × (to ≤ length d) × (n + 1 + length (escape f (drop from (take to d))) ≤ length (set out n 47))
-    tag-part =
-        (omega arith, omega (arith, t.lies.within j h), omega (arith, length-set out n 47, write_fits t.writing (47 ∷ escape f (drop from (take to d))) _ tag-left))
+    pub tag_part : (from ≤ to) × (to ≤ length d) × (n + 1 + length (escape f (drop from (take to d))) ≤ length (set out n 47))
+    tag_part =
+        (omega arith, omega (arith, t.lies.within j h), omega (arith, length-set out n 47, write_fits t.writing (47 ∷ escape f (drop from (take to d))) _ tag_left))
 
-    pub tag-turn : {out' : List ℕ} {n' : ℕ} → Wrote (set out n 47) (n + 1) (escape f (drop from (take to d))) out' n' → Tagging f ss ls d e out₀ at all out' (j + 1) n'
-    tag-turn w = record {
+    pub tag_turn : {out' : List ℕ} {n' : ℕ} → Wrote (set out n 47) (n + 1) (escape f (drop from (take to d))) out' n' → Tagging f ss ls d e out₀ at all out' (j + 1) n'
+    tag_turn w = record {
       upto = omega arith;
       lies = t.lies;
-      writing = write_item (write_byte t.writing tag-left) refl w;
+      writing = write_item (write_byte t.writing tag_left) refl w;
     }
 
   pub tags_done : e ≤ j → Wrote out₀ at all out n
   unfolding write_tags
   tags_done h = write_done t.writing (rw (tags_none ss ls d j e h))
 
-pub ruleset tagging = (tags_start, tag-byte, tag-part, tag-turn, tags_done)
+pub ruleset tagging = (tags_start, tag_byte, tag_part, tag_turn, tags_done)
 
 -- ---- a row: the c tags that it lists, then absent ones up to n columns
 module _ (f : Form) (n : ℕ) (ss ls d : List ℕ) (m i : ℕ) {c : ℕ} (a : c ≡ count_at ls m i) where
@@ -77,18 +77,18 @@ module _ (f : Form) (n : ℕ) (ss ls d : List ℕ) (m i : ℕ) {c : ℕ} (a : c 
     fits : at + length listed_tags + (n - c) ≤ length out
     fits = omega (arith, ap length row_split, length-append listed_tags (replicate (n - c) 47), length-replicate {A = ℕ} (n - c) 47)
 
-    pub row-tags : RowLies ss ls d m i → (i * m ≤ i * m + c) × Lie ss ls (i * m + c) (length d) × (at + length listed_tags ≤ length out)
-    row-tags h = (omega arith, fewer_lie (i * m + c) (omega (arith, used_few ls (i * m) m)) h, omega (arith, fits))
+    pub row_tags : RowLies ss ls d m i → (i * m ≤ i * m + c) × Lie ss ls (i * m + c) (length d) × (at + length listed_tags ≤ length out)
+    row_tags h = (omega arith, fewer_lie (i * m + c) (omega (arith, used_few ls (i * m) m)) h, omega (arith, fits))
 
     pub row_rest : {out' : List ℕ} {k : ℕ} → Wrote out at listed_tags out' k → k + (n - c) ≤ length out'
     row_rest w = omega (arith, fits, w.end, wrote_long w)
 
   module _ {o₀ o₁ : List ℕ} {i₀ i₁ : ℕ} (v : Wrote o₀ i₀ listed_tags o₁ i₁) where
-    pub row-padded : {o₂ : List ℕ} {i₂ : ℕ} → Wrote o₁ i₁ (replicate (n - c) 47) o₂ i₂ → Wrote o₀ i₀ (row_line f n (row_at ss ls d m i)) o₂ i₂
-    row-padded w = rw row_split (wrote_both v w)
+    pub row_padded : {o₂ : List ℕ} {i₂ : ℕ} → Wrote o₁ i₁ (replicate (n - c) 47) o₂ i₂ → Wrote o₀ i₀ (row_line f n (row_at ss ls d m i)) o₂ i₂
+    row_padded w = rw row_split (wrote_both v w)
 
-    pub row-full : n ≤ c → Wrote o₀ i₀ (row_line f n (row_at ss ls d m i)) o₁ i₁
-    row-full h = let z : n - c ≡ 0 = omega arith in rw (row_split, z, append-nil) v
+    pub row_full : n ≤ c → Wrote o₀ i₀ (row_line f n (row_at ss ls d m i)) o₁ i₁
+    row_full h = let z : n - c ≡ 0 = omega arith in rw (row_split, z, append-nil) v
 
 -- ---- two items one after the other
 module _ (vs ws : List ℕ) (out : List ℕ) (at : ℕ) (r : at + length (vs ++ ws) ≤ length out) where
@@ -109,14 +109,14 @@ module _ (ps text : List ℕ) (b e x y : ℕ) (a : x ≡ get_or ps b 0) (z : y �
 -- ---- the text of characters b up to e, copied by F, and then a row that is written as `ws`
 module _ (F : List ℕ → List ℕ) (ps text : List ℕ) (b e x y : ℕ) (a : x ≡ get_or ps b 0) (z : y ≡ get_or ps e 0) (ws : List ℕ) where
   module _ (out : List ℕ) (at : ℕ) (r : at + length (F (text_at ps text b e) ++ ws) ≤ length out) where
-    both-fit : at + length (F (drop x (take y text))) + length ws ≤ length out
-    both-fit = rw (a, z) (omega (arith, length-append (F (text_at ps text b e)) ws))
+    both_fit : at + length (F (drop x (take y text))) + length ws ≤ length out
+    both_fit = rw (a, z) (omega (arith, length-append (F (text_at ps text b e)) ws))
 
-    pub text-first : TextLies ps text b e → (x ≤ y) × (y ≤ length text) × (at + length (F (drop x (take y text))) ≤ length out)
-    text-first h = (omega (arith, h.rises), omega (arith, h.within), omega (arith, both-fit))
+    pub text_first : TextLies ps text b e → (x ≤ y) × (y ≤ length text) × (at + length (F (drop x (take y text))) ≤ length out)
+    text_first h = (omega (arith, h.rises), omega (arith, h.within), omega (arith, both_fit))
 
-    pub text-then : {out' : List ℕ} {m : ℕ} → Wrote out at (F (drop x (take y text))) out' m → m + length ws ≤ length out'
-    text-then w = omega (arith, both-fit, w.end, wrote_long w)
+    pub text_then : {out' : List ℕ} {m : ℕ} → Wrote out at (F (drop x (take y text))) out' m → m + length ws ≤ length out'
+    text_then w = omega (arith, both_fit, w.end, wrote_long w)
 
   pub text_both : {o₀ o₁ o₂ : List ℕ} {i₀ i₁ i₂ : ℕ} → Wrote o₀ i₀ (F (drop x (take y text))) o₁ i₁ → Wrote o₁ i₁ ws o₂ i₂ → Wrote o₀ i₀ (F (text_at ps text b e) ++ ws) o₂ i₂
   text_both v w = rw (← a, ← z) (wrote_both v w)

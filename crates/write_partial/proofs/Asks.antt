@@ -35,8 +35,8 @@ module _ (text bs ps ss ls ds : List ℕ) (m n : ℕ) where
     both : length (rest_of text bs ps ss ls ds m n i last) ≡ length (stretch i (last - i)) + length (char_line n text ps ss ls ds m last)
     both = length-append (stretch i (last - i)) (char_line n text ps ss ls ds m last)
 
-    pub rest-first : Stretch out at i last
-    rest-first = (less_spread last (omega arith) t, less_rows last (omega arith) w, l, long, omega (arith, both))
+    pub rest_first : Stretch out at i last
+    rest_first = (less_spread last (omega arith) t, less_rows last (omega arith) w, l, long, omega (arith, both))
 
     pub rest_then : {out' : List ℕ} {at' : ℕ} → Wrote out at (stretch i (last - i)) out' at'
         → TextLies ps text last (last + 1) × RowLies ss ls ds m last × (at' + length (char_line n text ps ss ls ds m last) ≤ length out')
@@ -55,8 +55,8 @@ module _ (text bs ps ss ls ds : List ℕ) (m n : ℕ) where
   before_suc p = let z : suc p - 1 ≡ p = omega arith in let y : p - 0 ≡ p = omega arith in rw (z, y)
 
   module _ (start : ℕ) (q : start ≡ 0 → ⊥) where
-    before-is : before_of text bs ps ss ls ds m n start ≡ stretch 0 (start - 1 - 0) ++ (char_line 0 text ps ss ls ds m (start - 1) ++ (32 ∷ []))
-    before-is = on start q
+    before_is : before_of text bs ps ss ls ds m n start ≡ stretch 0 (start - 1 - 0) ++ (char_line 0 text ps ss ls ds m (start - 1) ++ (32 ∷ []))
+    before_is = on start q
       where
         on : (k : ℕ) → (k ≡ 0 → ⊥) → before_of text bs ps ss ls ds m n k ≡ stretch 0 (k - 1 - 0) ++ (char_line 0 text ps ss ls ds m (k - 1) ++ (32 ∷ []))
         on zero z = absurd (z refl)
@@ -64,41 +64,41 @@ module _ (text bs ps ss ls ds : List ℕ) (m n : ℕ) where
 
     module _ (out : List ℕ) (t : Spread ps text start) (w : Rows ss ls ds m start) (long : start ≤ length bs + 1) (room : length (before_of text bs ps ss ls ds m n start) ≤ length out) where
       begun : Writing out 0 (before_of text bs ps ss ls ds m n start) out 0 (stretch 0 (start - 1 - 0) ++ (char_line 0 text ps ss ls ds m (start - 1) ++ (32 ∷ [])))
-      begun = write_keep (write_start out 0 (before_of text bs ps ss ls ds m n start) (omega arith)) before-is
+      begun = write_keep (write_start out 0 (before_of text bs ps ss ls ds m n start) (omega arith)) before_is
 
-      pub before-first : Stretch out 0 0 (start - 1)
-      before-first = (less_spread (start - 1) (omega arith) t, less_rows (start - 1) (omega arith) w, omega arith, omega arith, write_fits begun (stretch 0 (start - 1 - 0)) _ refl)
+      pub before_first : Stretch out 0 0 (start - 1)
+      before_first = (less_spread (start - 1) (omega arith) t, less_rows (start - 1) (omega arith) w, omega arith, omega arith, write_fits begun (stretch 0 (start - 1 - 0)) _ refl)
 
       module _ {out₁ : List ℕ} {at₁ : ℕ} (c : Wrote out 0 (stretch 0 (start - 1 - 0)) out₁ at₁) where
         halfway : Writing out 0 (before_of text bs ps ss ls ds m n start) out₁ at₁ (char_line 0 text ps ss ls ds m (start - 1) ++ (32 ∷ []))
         halfway = write_item begun refl c
 
-        pub before-then : TextLies ps text (start - 1) (start - 1 + 1) × RowLies ss ls ds m (start - 1) × (at₁ + length (char_line 0 text ps ss ls ds m (start - 1)) ≤ length out₁)
-        before-then = (t.lies (start - 1) (omega arith), w.lies (start - 1) (omega arith), write_fits halfway (char_line 0 text ps ss ls ds m (start - 1)) _ refl)
+        pub before_then : TextLies ps text (start - 1) (start - 1 + 1) × RowLies ss ls ds m (start - 1) × (at₁ + length (char_line 0 text ps ss ls ds m (start - 1)) ≤ length out₁)
+        before_then = (t.lies (start - 1) (omega arith), w.lies (start - 1) (omega arith), write_fits halfway (char_line 0 text ps ss ls ds m (start - 1)) _ refl)
 
         module _ {out₂ : List ℕ} {at₂ : ℕ} (o : Wrote out₁ at₁ (char_line 0 text ps ss ls ds m (start - 1)) out₂ at₂) where
           nearly : Writing out 0 (before_of text bs ps ss ls ds m n start) out₂ at₂ (32 ∷ [])
           nearly = write_item halfway refl o
 
-          pub before-byte : at₂ < length out₂
-          before-byte = omega (arith, write_fits nearly (32 ∷ []) [] refl)
+          pub before_byte : at₂ < length out₂
+          before_byte = omega (arith, write_fits nearly (32 ∷ []) [] refl)
 
-          pub before-inside : at₂ < length out
-          before-inside = omega (arith, before-byte, nearly.long)
+          pub before_inside : at₂ < length out
+          before_inside = omega (arith, before_byte, nearly.long)
 
-          pub before-done : Wrote out 0 (before_of text bs ps ss ls ds m n start) (set out₂ at₂ 32) (at₂ + 1)
-          before-done = write_done (write_byte nearly refl) refl
+          pub before_done : Wrote out 0 (before_of text bs ps ss ls ds m n start) (set out₂ at₂ 32) (at₂ + 1)
+          before_done = write_done (write_byte nearly refl) refl
 
   -- ---- how long these are
   pub record BeforeSum (start : ℕ) : Type 0 where
-    pub first-in : 0 < length ps
-    pub start-in : start < length ps
+    pub first_in : 0 < length ps
+    pub start_in : start < length ps
     pub climbs : get_or ps 0 0 ≤ get_or ps start 0
     pub less : Rows ss ls ds m (start - 1)
-    pub last-in : start - 1 ≤ length bs
+    pub last_in : start - 1 ≤ length bs
     pub row : Follow ss ls ((start - 1) * m + m)
     pub cells : Follow ss ls (start * m)
-    pub bytes-in : bytes_to ss ls (start * m) ≤ length ds
+    pub bytes_in : bytes_to ss ls (start * m) ≤ length ds
     pub sum : get_or ps start 0 - get_or ps 0 0 + start + slashes_of bs ls m n 0 (start - 1 - 0) + count_at ls m (start - 1) + length (escape partial (drop 0 (take (bytes_to ss ls (start * m)) ds)))
         ≡ length (before_of text bs ps ss ls ds m n start)
 
@@ -113,26 +113,26 @@ module _ (text bs ps ss ls ds : List ℕ) (m n : ℕ) where
       let g = grown text ps ss ls ds m (suc p) t w 0 (p + 1) (omega arith) (omega arith) in
       rw z
       (record {
-        first-in = omega (arith, (t.lies p (omega arith)).from);
-        start-in = (t.lies p (omega arith)).upto;
+        first_in = omega (arith, (t.lies p (omega arith)).from);
+        start_in = (t.lies p (omega arith)).upto;
         climbs = g.climbs;
         less = rw y (less_rows p (omega arith) w);
-        last-in = omega arith;
+        last_in = omega arith;
         row = rw y v.cells;
         cells = rw o v.cells;
-        bytes-in = g.bytes.within;
+        bytes_in = g.bytes.within;
         sum = rw (y, x) (sym (rw (z, bytes_first ss ls ds m) at (before_sum n text bs ps ss ls ds m p (rw z at t) (rw z at w) (rw z at f))));
       })
 
   pub record RestSum (i last : ℕ) : Type 0 where
-    pub first-in : i < length ps
-    pub last-in : last + 1 < length ps
+    pub first_in : i < length ps
+    pub last_in : last + 1 < length ps
     pub climbs : get_or ps i 0 ≤ get_or ps (last + 1) 0
     pub less : Rows ss ls ds m last
     pub first : Follow ss ls (i * m)
     pub cells : Follow ss ls ((last + 1) * m)
     pub rises : bytes_to ss ls (i * m) ≤ bytes_to ss ls ((last + 1) * m)
-    pub bytes-in : bytes_to ss ls ((last + 1) * m) ≤ length ds
+    pub bytes_in : bytes_to ss ls ((last + 1) * m) ≤ length ds
     pub sum : get_or ps (last + 1) 0 - get_or ps i 0 + (last - i) + slashes_of bs ls m n i (last - i) + n + length (escape partial (drop (bytes_to ss ls (i * m)) (take (bytes_to ss ls ((last + 1) * m)) ds)))
         ≡ length (rest_of text bs ps ss ls ds m n i last)
 
@@ -143,13 +143,13 @@ module _ (text bs ps ss ls ds : List ℕ) (m n : ℕ) where
       let o : (last + 1) * m ≡ last * m + m = omega arith in
       let g = grown text ps ss ls ds m (last + 1) t w i (last + 1) (omega arith) (omega arith) in
       record {
-        first-in = (t.lies i (omega arith)).from;
-        last-in = (t.lies last (omega arith)).upto;
+        first_in = (t.lies i (omega arith)).from;
+        last_in = (t.lies last (omega arith)).upto;
         climbs = g.climbs;
         less = less_rows last (omega arith) w;
         first = fewer (i * m) (omega arith) u.cells;
         cells = rw o v.cells;
         rises = g.bytes.rises;
-        bytes-in = g.bytes.within;
+        bytes_in = g.bytes.within;
         sum = sym (rest_sum n text bs ps ss ls ds m i last l t w f);
       }

@@ -95,10 +95,10 @@ module _ (text ps ss ls ds : List ℕ) (m : ℕ) where
     pub bytes : Bytes ss ls ds m b e
 
   module _ (n : ℕ) (t : Spread ps text n) (w : Rows ss ls ds m n) where
-    grown-from : (k i : ℕ) → i + k < n → Grown i (i + k + 1)
-    grown-from zero i l = rw add-zero (record { climbs = (t.lies i (omega arith)).rises; bytes = bytes_one ss ls ds m i (w.lies i (omega arith)) })
-    grown-from (suc k) i l =
-        let g = grown-from k (i + 1) (omega arith) in
+    grown_from : (k i : ℕ) → i + k < n → Grown i (i + k + 1)
+    grown_from zero i l = rw add-zero (record { climbs = (t.lies i (omega arith)).rises; bytes = bytes_one ss ls ds m i (w.lies i (omega arith)) })
+    grown_from (suc k) i l =
+        let g = grown_from k (i + 1) (omega arith) in
         let q : i + 1 + k + 1 ≡ i + suc k + 1 = omega arith in
         let o = rw q at g in
         let b = bytes_one ss ls ds m i (w.lies i (omega arith)) in
@@ -108,7 +108,7 @@ module _ (text ps ss ls ds : List ℕ) (m : ℕ) where
         }
 
     pub grown : (b e : ℕ) → b < e → e ≤ n → Grown b e
-    grown b e l f = let q : b + (e - b - 1) + 1 ≡ e = omega arith in rw q at (grown-from (e - b - 1) b (omega arith))
+    grown b e l f = let q : b + (e - b - 1) + 1 ≡ e = omega arith in rw q at (grown_from (e - b - 1) b (omega arith))
 
     -- with no step too
     span : (b e : ℕ) → b ≤ e → 1 ≤ e → e ≤ n → Grown b e
@@ -151,13 +151,13 @@ module _ (n : ℕ) (text bs ps ss ls ds : List ℕ) (m : ℕ) where
       let h = rw y at (stretch_sum p 0 (record { lies = λ i x. t.lies i (omega arith) }) (record { lies = λ i x. w.lies i (omega arith) }) (record { few = λ j x y. f.few j (omega arith) (omega arith) })) in
       let c = char_sum 0 text ps ss ls ds m p (t.lies p (omega arith)) (w.lies p (omega arith)) in
       let g = span text ps ss ls ds m (p + 1) t w p (p + 1) (omega arith) (omega arith) (omega arith) in
-      let o = first-span p t w in
+      let o = first_span p t w in
       rw (length-append (stretch_of text bs ps ss ls ds m n 0 p) _, length-append (char_line 0 text ps ss ls ds m p) (32 ∷ []))
       (omega (arith, h, c, g.climbs, o.climbs, escaped_both ss ls ds m 0 p (p + 1) o.bytes g.bytes))
     where
-      first-span : (p : ℕ) → Spread ps text (p + 1) → Rows ss ls ds m (p + 1) → Grown text ps ss ls ds m 0 p
-      first-span zero t w = record { climbs = omega arith; bytes = record { rises = omega arith; within = omega (arith, bytes_first ss ls ds m) } }
-      first-span (suc p) t w = span text ps ss ls ds m (suc p + 1) t w 0 (suc p) (omega arith) (omega arith) (omega arith)
+      first_span : (p : ℕ) → Spread ps text (p + 1) → Rows ss ls ds m (p + 1) → Grown text ps ss ls ds m 0 p
+      first_span zero t w = record { climbs = omega arith; bytes = record { rises = omega arith; within = omega (arith, bytes_first ss ls ds m) } }
+      first_span (suc p) t w = span text ps ss ls ds m (suc p + 1) t w 0 (suc p) (omega arith) (omega arith) (omega arith)
 
   pub rest_sum : (i last : ℕ) → i ≤ last → Spread ps text (last + 1) → Rows ss ls ds m (last + 1) → Narrow ls m n i (last + 1)
       → length (rest_of text bs ps ss ls ds m n i last) ≡ get_or ps (last + 1) 0 - get_or ps i 0 + (last - i) + slashes_of bs ls m n i (last - i) + n + escaped_in ss ls ds m i (last + 1)
@@ -166,14 +166,14 @@ module _ (n : ℕ) (text bs ps ss ls ds : List ℕ) (m : ℕ) where
       let h = rw q at (stretch_sum (last - i) i (record { lies = λ j x. t.lies j (omega arith) }) (record { lies = λ j x. w.lies j (omega arith) }) (record { few = λ j x y. f.few j (omega arith) (omega arith) })) in
       let c = char_sum n text ps ss ls ds m last (t.lies last (omega arith)) (w.lies last (omega arith)) in
       let g = span text ps ss ls ds m (last + 1) t w last (last + 1) (omega arith) (omega arith) (omega arith) in
-      let o = whole-span i last l t w in
+      let o = whole_span i last l t w in
       rw (length-append (stretch_of text bs ps ss ls ds m n i (last - i)) (char_line n text ps ss ls ds m last))
       (omega (arith, h, c, f.few last (omega arith) (omega arith), g.climbs, o.climbs, escaped_both ss ls ds m i last (last + 1) o.bytes g.bytes))
     where
-      whole-span : (i last : ℕ) → i ≤ last → Spread ps text (last + 1) → Rows ss ls ds m (last + 1) → Grown text ps ss ls ds m i last
-      whole-span zero zero l t w = record { climbs = omega arith; bytes = record { rises = omega arith; within = omega (arith, bytes_first ss ls ds m) } }
-      whole-span (suc i) zero l t w = absurd (omega arith)
-      whole-span i (suc last) l t w = span text ps ss ls ds m (suc last + 1) t w i (suc last) (omega arith) (omega arith) (omega arith)
+      whole_span : (i last : ℕ) → i ≤ last → Spread ps text (last + 1) → Rows ss ls ds m (last + 1) → Grown text ps ss ls ds m i last
+      whole_span zero zero l t w = record { climbs = omega arith; bytes = record { rises = omega arith; within = omega (arith, bytes_first ss ls ds m) } }
+      whole_span (suc i) zero l t w = absurd (omega arith)
+      whole_span i (suc last) l t w = span text ps ss ls ds m (suc last + 1) t w i (suc last) (omega arith) (omega arith) (omega arith)
 
   pub climbs : (k i : ℕ) → Spread ps text (i + k) → get_or ps i 0 ≤ get_or ps (i + k) 0
   climbs zero i t = let z : i + 0 ≡ i = omega arith in rw z (omega arith)

@@ -39,21 +39,21 @@ module _ {text bs ps ss ls ds : List ℕ} {m : ℕ} {n upto : ℕ} {out₀ : Lis
     unfolding stretch_of
     stretch_left = let k : upto - i ≡ suc (upto - (i + 1)) = omega arith in rw (k, q)
 
-    pub stretch-asks : TextLies ps text i (i + 1) × RowLies ss ls ds m i × (at + length (char_line w text ps ss ls ds m i) ≤ length out)
-    stretch-asks = (t.spread.lies i l, t.rows.lies i l, write_fits t.writing (char_line w text ps ss ls ds m i) _ stretch_left)
+    pub stretch_asks : TextLies ps text i (i + 1) × RowLies ss ls ds m i × (at + length (char_line w text ps ss ls ds m i) ≤ length out)
+    stretch_asks = (t.spread.lies i l, t.rows.lies i l, write_fits t.writing (char_line w text ps ss ls ds m i) _ stretch_left)
 
     module _ {out' : List ℕ} {at' : ℕ} (c : Wrote out at (char_line w text ps ss ls ds m i) out' at') where
       behind : Writing out₀ at₀ all out' at' (sign (mark_of (get_or bs i 0)) ∷ stretch_of text bs ps ss ls ds m n (i + 1) (upto - (i + 1)))
       behind = write_item t.writing stretch_left c
 
-      pub stretch-byte : at' < length out'
-      stretch-byte = omega (arith, write_fits behind (sign (mark_of (get_or bs i 0)) ∷ []) _ refl)
+      pub stretch_byte : at' < length out'
+      stretch_byte = omega (arith, write_fits behind (sign (mark_of (get_or bs i 0)) ∷ []) _ refl)
 
-      pub stretch-inside : at' < length out₀
-      stretch-inside = omega (arith, stretch-byte, behind.long)
+      pub stretch_inside : at' < length out₀
+      stretch_inside = omega (arith, stretch_byte, behind.long)
 
-      pub stretch-next : {z : ℕ} → z ≡ sign (mark_of (get_or bs i 0)) → Stretching text bs ps ss ls ds m n upto out₀ at₀ all (set out' at' z) (at' + 1) (i + 1)
-      stretch-next o = record { spread = t.spread; rows = t.rows; long = t.long; here = omega arith; writing = rw o (write_byte behind refl) }
+      pub stretch_next : {z : ℕ} → z ≡ sign (mark_of (get_or bs i 0)) → Stretching text bs ps ss ls ds m n upto out₀ at₀ all (set out' at' z) (at' + 1) (i + 1)
+      stretch_next o = record { spread = t.spread; rows = t.rows; long = t.long; here = omega arith; writing = rw o (write_byte behind refl) }
 
   pub stretch_done : upto ≤ i → Wrote out₀ at₀ all out at
   unfolding stretch_of
@@ -71,25 +71,25 @@ cover_start out at i t l h = record { spread = t; here = l; writing = write_star
 
 module _ {text ps : List ℕ} {upto : ℕ} {out₀ : List ℕ} {at₀ : ℕ} {all out : List ℕ} {at i : ℕ} (t : Covering text ps upto out₀ at₀ all out at i) where
   module _ (l : i < upto) where
-    cover-left : covered_of text ps i (upto - i) ≡ text_at ps text i (i + 1) ++ (32 ∷ covered_of text ps (i + 1) (upto - (i + 1)))
+    cover_left : covered_of text ps i (upto - i) ≡ text_at ps text i (i + 1) ++ (32 ∷ covered_of text ps (i + 1) (upto - (i + 1)))
     unfolding covered_of
-    cover-left = let k : upto - i ≡ suc (upto - (i + 1)) = omega arith in rw k
+    cover_left = let k : upto - i ≡ suc (upto - (i + 1)) = omega arith in rw k
 
-    pub cover-asks : TextLies ps text i (i + 1) × (at + length (text_at ps text i (i + 1)) ≤ length out)
-    cover-asks = (t.spread.lies i l, write_fits t.writing (text_at ps text i (i + 1)) _ cover-left)
+    pub cover_asks : TextLies ps text i (i + 1) × (at + length (text_at ps text i (i + 1)) ≤ length out)
+    cover_asks = (t.spread.lies i l, write_fits t.writing (text_at ps text i (i + 1)) _ cover_left)
 
     module _ {out' : List ℕ} {at' : ℕ} (c : Wrote out at (text_at ps text i (i + 1)) out' at') where
-      cover-behind : Writing out₀ at₀ all out' at' (32 ∷ covered_of text ps (i + 1) (upto - (i + 1)))
-      cover-behind = write_item t.writing cover-left c
+      cover_behind : Writing out₀ at₀ all out' at' (32 ∷ covered_of text ps (i + 1) (upto - (i + 1)))
+      cover_behind = write_item t.writing cover_left c
 
-      pub cover-byte : at' < length out'
-      cover-byte = omega (arith, write_fits cover-behind (32 ∷ []) _ refl)
+      pub cover_byte : at' < length out'
+      cover_byte = omega (arith, write_fits cover_behind (32 ∷ []) _ refl)
 
-      pub cover-inside : at' < length out₀
-      cover-inside = omega (arith, cover-byte, cover-behind.long)
+      pub cover_inside : at' < length out₀
+      cover_inside = omega (arith, cover_byte, cover_behind.long)
 
-      pub cover-next : Covering text ps upto out₀ at₀ all (set out' at' 32) (at' + 1) (i + 1)
-      cover-next = record { spread = t.spread; here = omega arith; writing = write_byte cover-behind refl }
+      pub cover_next : Covering text ps upto out₀ at₀ all (set out' at' 32) (at' + 1) (i + 1)
+      cover_next = record { spread = t.spread; here = omega arith; writing = write_byte cover_behind refl }
 
   pub cover_done : upto ≤ i → Wrote out₀ at₀ all out at
   unfolding covered_of
@@ -120,11 +120,11 @@ slash_start n i w l o h = record { rows = w; long = o; here = l; few = h; same =
 
 module _ {bs ss ls ds : List ℕ} {m : ℕ} {n upto all sum i : ℕ} (t : Slashing bs ss ls ds m n upto all sum i) where
   module _ (l : i < upto) where
-    pub slash-reads : i < length bs
-    slash-reads = omega (arith, t.long)
+    pub slash_reads : i < length bs
+    slash_reads = omega (arith, t.long)
 
-    pub slash-asks : Follow ss ls (i * m + m)
-    slash-asks = (t.rows.lies i l).cells
+    pub slash_asks : Follow ss ls (i * m + m)
+    slash_asks = (t.rows.lies i l).cells
 
     left : slashes_of bs ls m n i (upto - i) ≡ (when eqb (get_or bs i 0) 1 then n else count_at ls m i) + slashes_of bs ls m n (i + 1) (upto - (i + 1))
     unfolding slashes_of
@@ -134,21 +134,21 @@ module _ {bs ss ls ds : List ℕ} {m : ℕ} {n upto all sum i : ℕ} (t : Slashi
       word : n + slashes_of bs ls m n (i + 1) (upto - (i + 1)) ≡ slashes_of bs ls m n i (upto - i)
       word = let z : eqb (get_or bs i 0) 1 ≡ true = eq-eqb (get_or bs i 0) 1 q in sym (left ∙ rw (if_true (eqb (get_or bs i 0) 1) n (count_at ls m i) z))
 
-      pub slash-word-fits : Fits w64 (sum + n)
-      slash-word-fits = omega (arith, word, t.same, t.few)
+      pub slash_word_fits : Fits w64 (sum + n)
+      slash_word_fits = omega (arith, word, t.same, t.few)
 
-      pub slash-word : Slashing bs ss ls ds m n upto all (sum + n) (i + 1)
-      slash-word = record { rows = t.rows; long = t.long; here = omega arith; few = t.few; same = omega (arith, word, t.same) }
+      pub slash_word : Slashing bs ss ls ds m n upto all (sum + n) (i + 1)
+      slash_word = record { rows = t.rows; long = t.long; here = omega arith; few = t.few; same = omega (arith, word, t.same) }
 
     module _ (q : get_or bs i 0 ≡ 1 → ⊥) {k : ℕ} (c : k ≡ count_at ls m i) where
       other : k + slashes_of bs ls m n (i + 1) (upto - (i + 1)) ≡ slashes_of bs ls m n i (upto - i)
       other = let z : eqb (get_or bs i 0) 1 ≡ false = ne_eqb (get_or bs i 0) 1 q in sym (left ∙ rw (if_false (eqb (get_or bs i 0) 1) n (count_at ls m i) z, ← c))
 
-      pub slash-other-fits : Fits w64 (sum + k)
-      slash-other-fits = omega (arith, other, t.same, t.few)
+      pub slash_other_fits : Fits w64 (sum + k)
+      slash_other_fits = omega (arith, other, t.same, t.few)
 
-      pub slash-other : Slashing bs ss ls ds m n upto all (sum + k) (i + 1)
-      slash-other = record { rows = t.rows; long = t.long; here = omega arith; few = t.few; same = omega (arith, other, t.same) }
+      pub slash_other : Slashing bs ss ls ds m n upto all (sum + k) (i + 1)
+      slash_other = record { rows = t.rows; long = t.long; here = omega arith; few = t.few; same = omega (arith, other, t.same) }
 
   pub slash_done : upto ≤ i → sum ≡ all
   unfolding slashes_of

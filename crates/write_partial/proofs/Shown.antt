@@ -88,8 +88,8 @@ module _ {r : Record} {d : Buffers} {s : Sentence} (h : Holds r d s) where
   row_at_shown b e i k = row_at b e 0 i s.cells ∙ rw zero-add
 
   module _ (n b e : ℕ) where
-    pub text-shown : (i : ℕ) → i < r.n → drop i (text (shown_of n b e s)) ≡ get_or (text s) i 0 ∷ drop (i + 1) (text (shown_of n b e s))
-    text-shown i k = rw (text_hidden b e 0 s.cells) (text_step h i k)
+    pub text_shown : (i : ℕ) → i < r.n → drop i (text (shown_of n b e s)) ≡ get_or (text s) i 0 ∷ drop (i + 1) (text (shown_of n b e s))
+    text_shown i k = rw (text_hidden b e 0 s.cells) (text_step h i k)
 
     pub mark_shown : (i : ℕ) → i < r.n - 1 → {m : ℕ} → m ≡ (when touches b e i then 2 else get_or d.boundaries_buf i 0)
         → drop i (marks (shown_of n b e s)) ≡ mark_of m ∷ drop (i + 1) (marks (shown_of n b e s))
@@ -101,8 +101,8 @@ module _ {r : Record} {d : Buffers} {s : Sentence} (h : Holds r d s) where
         ∙ rw (q, if_map mark_of (touches b e i) 2 (get_or d.boundaries_buf i 0), boundary_is h i k, mark_back (get_or (marks s) i none)) in
         left none (marks (shown_of n b e s)) i (omega (arith, marks_count b e 0 s.cells)) ∙ rw x
 
-    pub marks-end : (i : ℕ) → r.n - 1 ≤ i → drop i (marks (shown_of n b e s)) ≡ []
-    marks-end i k = drop_of_length-le (marks (shown_of n b e s)) {i = i} (omega (arith, bounds h, marks_count b e 0 s.cells))
+    pub marks_end : (i : ℕ) → r.n - 1 ≤ i → drop i (marks (shown_of n b e s)) ≡ []
+    marks_end i k = drop_of_length-le (marks (shown_of n b e s)) {i = i} (omega (arith, bounds h, marks_count b e 0 s.cells))
 
     pub row_shown : (i : ℕ) → i < r.n → drop i (rows (shown_of n b e s)) ≡ row_in b e s i ∷ drop (i + 1) (rows (shown_of n b e s))
     row_shown i k =

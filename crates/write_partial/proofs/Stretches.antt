@@ -23,7 +23,7 @@ use Rattle.write_escape.proofs.Encoded.{encodes_tags, encodes_pad, tags_absent}
 use Rattle.write_items.specs.Items.{text_at, char_line}
 use Rattle.write_items.proofs.Held.{text_is, row_line_lem}
 use Rattle.write_partial.specs.Line.{shown_of, stretch_of, covered_of, before_of, rest_of, bare_of}
-use Rattle.write_partial.proofs.Shown.{free_before, free_behind, edge_touches, covered_touches, none_touch, text-shown, mark_shown, marks-end, row_in, row_shown, row_cut}
+use Rattle.write_partial.proofs.Shown.{free_before, free_behind, edge_touches, covered_touches, none_touch, text_shown, mark_shown, marks_end, row_in, row_shown, row_cut}
 
 -- ---- the line of characters with the boundaries between them and their rows
 partial_from : ℕ → List ℕ → List Mark → List (List Tag) → List ℕ
@@ -122,7 +122,7 @@ module _ {r : Record} {d : Buffers} {s : Sentence} (h : Holds r d s) (n b e : �
         text_at_lem i k,
         q,
         ← (shown_pad n m (row_in b e s i) (row_cut h n b e i k)),
-        text-shown h n b e i k,
+        text_shown h n b e i k,
         mark_shown h n b e i (omega arith) p,
         row_shown h n b e i k,
       ) (encodes_cell _ _ _ _)
@@ -131,7 +131,7 @@ module _ {r : Record} {d : Buffers} {s : Sentence} (h : Holds r d s) (n b e : �
   unfolding left_from partial_from
   left_end i l =
       let k : i < r.n = omega (arith, bounds h) in
-      rw (text_at_lem i k, text-shown h n b e i k, marks-end h n b e i (omega arith), row_shown h n b e i k) (encodes_last _ _)
+      rw (text_at_lem i k, text_shown h n b e i k, marks_end h n b e i (omega arith), row_shown h n b e i k) (encodes_last _ _)
 
   -- its row, shown or hidden
   row_open : (i w : ℕ) → i < r.n → in_range b e i ≡ false → text_in d i ++ encodes (write_tags partial (pad w (row_in b e s i))) ≡ char_in d r.columns w i
@@ -211,8 +211,8 @@ module _ {r : Record} {d : Buffers} {s : Sentence} (h : Holds r d s) (n b e : �
   line_whole q = sym (left_start (shown_of n b e s)) ∙ left_rest 0 (omega (arith, bounds h)) (λ j x. (none_touch b e j (omega arith), none_in b e j (omega arith)))
 
   module _ (l : b < e) where
-    pub line-to-end : e ≡ r.n → line_in ≡ before_in d r.columns n b ++ (covered_in d b (r.n - 1 - b) ++ bare_in d n (r.n - 1))
-    line-to-end q =
+    pub line_to_end : e ≡ r.n → line_in ≡ before_in d r.columns n b ++ (covered_in d b (r.n - 1 - b) ++ bare_in d n (r.n - 1))
+    line_to_end q =
         let last = r.n - 1 in
         let k : b + (last - b) ≡ last = omega arith in
         sym (left_start (shown_of n b e s))
@@ -221,8 +221,8 @@ module _ {r : Record} {d : Buffers} {s : Sentence} (h : Holds r d s) (n b e : �
         (left_hides (last - b) b (omega arith) (λ j x y. in_range_lem b e j x (omega arith))
         ∙ rw (k, left_end last refl, row_covered last n (in_range_lem b e last (omega arith) (omega arith))))
 
-    pub line-within : e < r.n → line_in ≡ before_in d r.columns n b ++ (covered_in d b (e - b) ++ rest_in d r.columns n e (r.n - 1))
-    line-within q =
+    pub line_within : e < r.n → line_in ≡ before_in d r.columns n b ++ (covered_in d b (e - b) ++ rest_in d r.columns n e (r.n - 1))
+    line_within q =
         let k : b + (e - b) ≡ e = omega arith in
         sym (left_start (shown_of n b e s))
         ∙ left_before b refl l (omega arith)

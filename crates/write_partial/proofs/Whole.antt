@@ -17,7 +17,7 @@ use Rattle.write_escape.specs.Wrote.{Wrote, Lined, lined, Writing, write_start, 
 use Rattle.write_items.proofs.Lengths.{text_long}
 use Rattle.write_items.proofs.Held.{text_lies, row_lies}
 use Rattle.write_partial.specs.Line.{shown_of, Asked, Spread, Rows, Narrow}
-use Rattle.write_partial.proofs.Stretches.{covered_in, before_in, rest_in, bare_in, text_in, line_whole, line-to-end, line-within}
+use Rattle.write_partial.proofs.Stretches.{covered_in, before_in, rest_in, bare_in, text_in, line_whole, line_to_end, line_within}
 use Rattle.write_partial.proofs.Count.{line_few, climbs, covered_sum}
 use Rattle.write_partial.proofs.Widest.{count_few}
 
@@ -55,14 +55,14 @@ module _ {r : Record} {d : Buffers} (h : Sheet r d) where
       whole : Writing out 0 all out 0 (rest_in d r.columns n 0 (r.n - 1))
       whole = write_keep start (line_whole h n b e q)
 
-      pub whole-asks : Spread d.char_pos_buf d.text_buf (r.n - 1 + 1) × Rows d.cell_starts_buf d.cell_lengths_buf d.tag_bytes_buf r.columns (r.n - 1 + 1) × (0 ≤ r.n - 1)
+      pub whole_asks : Spread d.char_pos_buf d.text_buf (r.n - 1 + 1) × Rows d.cell_starts_buf d.cell_lengths_buf d.tag_bytes_buf r.columns (r.n - 1 + 1) × (0 ≤ r.n - 1)
           × (r.n - 1 ≤ length d.boundaries_buf) × (0 + length (rest_in d r.columns n 0 (r.n - 1)) ≤ length out)
-      whole-asks =
+      whole_asks =
           let a = rest_asked 0 (omega (arith, bounds h)) in
           (a.0, a.1, a.2, a.3, omega (arith, whole.ends, room))
 
-      pub whole-done : {out' : List ℕ} {at : ℕ} → Wrote out 0 (rest_in d r.columns n 0 (r.n - 1)) out' at → Lined all out out' at
-      whole-done c = done (write_item whole (sym (append-nil _)) c)
+      pub whole_done : {out' : List ℕ} {at : ℕ} → Wrote out 0 (rest_in d r.columns n 0 (r.n - 1)) out' at → Lined all out out' at
+      whole_done c = done (write_item whole (sym (append-nil _)) c)
 
     -- another: first what is before it
     module _ (q : b ≡ e → ⊥) where
@@ -75,53 +75,53 @@ module _ {r : Record} {d : Buffers} (h : Sheet r d) where
       -- up to the end
       module _ (z : e ≡ r.n) where
         to_end : all ≡ before_in d r.columns n b ++ (covered_in d b (r.n - 1 - b) ++ bare_in d n (r.n - 1))
-        to_end = line-to-end h n b e (omega arith) z
+        to_end = line_to_end h n b e (omega arith) z
 
         module _ {out₁ : List ℕ} {at₁ : ℕ} (c : Wrote out 0 (before_in d r.columns n b) out₁ at₁) where
-          before-end : Writing out 0 all out₁ at₁ (covered_in d b (r.n - 1 - b) ++ bare_in d n (r.n - 1))
-          before-end = write_item start to_end c
+          before_end : Writing out 0 all out₁ at₁ (covered_in d b (r.n - 1 - b) ++ bare_in d n (r.n - 1))
+          before_end = write_item start to_end c
 
-          pub end-covers : Spread d.char_pos_buf d.text_buf (r.n - 1) × (b ≤ r.n - 1) × (at₁ + length (covered_in d b (r.n - 1 - b)) ≤ length out₁)
-          end-covers = (spread (r.n - 1) (omega arith), omega arith, write_fits before-end (covered_in d b (r.n - 1 - b)) _ refl)
+          pub end_covers : Spread d.char_pos_buf d.text_buf (r.n - 1) × (b ≤ r.n - 1) × (at₁ + length (covered_in d b (r.n - 1 - b)) ≤ length out₁)
+          end_covers = (spread (r.n - 1) (omega arith), omega arith, write_fits before_end (covered_in d b (r.n - 1 - b)) _ refl)
 
           module _ {out₂ : List ℕ} {at₂ : ℕ} (o : Wrote out₁ at₁ (covered_in d b (r.n - 1 - b)) out₂ at₂) where
-            last-left : Writing out 0 all out₂ at₂ (bare_in d n (r.n - 1))
-            last-left = write_item before-end refl o
+            last_left : Writing out 0 all out₂ at₂ (bare_in d n (r.n - 1))
+            last_left = write_item before_end refl o
 
-            pub end-last : Spread d.char_pos_buf d.text_buf (r.n - 1 + 1) × (at₂ + length (bare_in d n (r.n - 1)) ≤ length out₂)
-            end-last = (spread (r.n - 1 + 1) (omega arith), write_fits last-left (bare_in d n (r.n - 1)) [] (sym (append-nil _)))
+            pub end_last : Spread d.char_pos_buf d.text_buf (r.n - 1 + 1) × (at₂ + length (bare_in d n (r.n - 1)) ≤ length out₂)
+            end_last = (spread (r.n - 1 + 1) (omega arith), write_fits last_left (bare_in d n (r.n - 1)) [] (sym (append-nil _)))
 
-            pub end-done : {out₃ : List ℕ} {at₃ : ℕ} → Wrote out₂ at₂ (bare_in d n (r.n - 1)) out₃ at₃ → Lined all out out₃ at₃
-            end-done u = done (write_item last-left (sym (append-nil _)) u)
+            pub end_done : {out₃ : List ℕ} {at₃ : ℕ} → Wrote out₂ at₂ (bare_in d n (r.n - 1)) out₃ at₃ → Lined all out out₃ at₃
+            end_done u = done (write_item last_left (sym (append-nil _)) u)
 
       -- within
       module _ (z : e ≡ r.n → ⊥) where
         within : all ≡ before_in d r.columns n b ++ (covered_in d b (e - b) ++ rest_in d r.columns n e (r.n - 1))
-        within = line-within h n b e (omega arith) (omega arith)
+        within = line_within h n b e (omega arith) (omega arith)
 
         module _ {out₁ : List ℕ} {at₁ : ℕ} (c : Wrote out 0 (before_in d r.columns n b) out₁ at₁) where
-          before-range : Writing out 0 all out₁ at₁ (covered_in d b (e - b) ++ rest_in d r.columns n e (r.n - 1))
-          before-range = write_item start within c
+          before_range : Writing out 0 all out₁ at₁ (covered_in d b (e - b) ++ rest_in d r.columns n e (r.n - 1))
+          before_range = write_item start within c
 
-          pub range-covers : Spread d.char_pos_buf d.text_buf e × (b ≤ e) × (at₁ + length (covered_in d b (e - b)) ≤ length out₁)
-          range-covers = (spread e m, l, write_fits before-range (covered_in d b (e - b)) _ refl)
+          pub range_covers : Spread d.char_pos_buf d.text_buf e × (b ≤ e) × (at₁ + length (covered_in d b (e - b)) ≤ length out₁)
+          range_covers = (spread e m, l, write_fits before_range (covered_in d b (e - b)) _ refl)
 
           module _ {out₂ : List ℕ} {at₂ : ℕ} (o : Wrote out₁ at₁ (covered_in d b (e - b)) out₂ at₂) where
-            rest-left : Writing out 0 all out₂ at₂ (rest_in d r.columns n e (r.n - 1))
-            rest-left = write_item before-range refl o
+            rest_left : Writing out 0 all out₂ at₂ (rest_in d r.columns n e (r.n - 1))
+            rest_left = write_item before_range refl o
 
-            pub range-rest : Spread d.char_pos_buf d.text_buf (r.n - 1 + 1) × Rows d.cell_starts_buf d.cell_lengths_buf d.tag_bytes_buf r.columns (r.n - 1 + 1) × (e ≤ r.n - 1)
+            pub range_rest : Spread d.char_pos_buf d.text_buf (r.n - 1 + 1) × Rows d.cell_starts_buf d.cell_lengths_buf d.tag_bytes_buf r.columns (r.n - 1 + 1) × (e ≤ r.n - 1)
                 × (r.n - 1 ≤ length d.boundaries_buf) × (at₂ + length (rest_in d r.columns n e (r.n - 1)) ≤ length out₂)
-            range-rest =
+            range_rest =
                 let a = rest_asked e (omega arith) in
-                (a.0, a.1, a.2, a.3, write_fits rest-left (rest_in d r.columns n e (r.n - 1)) [] (sym (append-nil _)))
+                (a.0, a.1, a.2, a.3, write_fits rest_left (rest_in d r.columns n e (r.n - 1)) [] (sym (append-nil _)))
 
-            pub range-done : {out₃ : List ℕ} {at₃ : ℕ} → Wrote out₂ at₂ (rest_in d r.columns n e (r.n - 1)) out₃ at₃ → Lined all out out₃ at₃
-            range-done u = done (write_item rest-left (sym (append-nil _)) u)
+            pub range_done : {out₃ : List ℕ} {at₃ : ℕ} → Wrote out₂ at₂ (rest_in d r.columns n e (r.n - 1)) out₃ at₃ → Lined all out out₃ at₃
+            range_done u = done (write_item rest_left (sym (append-nil _)) u)
 
-      pub before-asks : Spread d.char_pos_buf d.text_buf b × Rows d.cell_starts_buf d.cell_lengths_buf d.tag_bytes_buf r.columns b × (b ≤ length d.boundaries_buf + 1)
+      pub before_asks : Spread d.char_pos_buf d.text_buf b × Rows d.cell_starts_buf d.cell_lengths_buf d.tag_bytes_buf r.columns b × (b ≤ length d.boundaries_buf + 1)
           × (length (before_in d r.columns n b) ≤ length out)
-      before-asks = (spread b (omega arith), rows b (omega arith), omega (arith, bounds h), on (eqb e r.n) refl)
+      before_asks = (spread b (omega arith), rows b (omega arith), omega (arith, bounds h), on (eqb e r.n) refl)
         where
           on : (t : Bool) → eqb e r.n ≡ t → length (before_in d r.columns n b) ≤ length out
           on true p = first_fits _ (to_end (eqb-true e r.n p))
@@ -136,20 +136,20 @@ module _ {r : Record} {d : Buffers} (h : Sheet r d) where
     unfolding long
     few = line_few h n b e a.narrow
 
-    narrow-before : Narrow d.cell_lengths_buf r.columns n 0 b
-    narrow-before = record { few = λ i x y. omega (arith, a.inside, a.ordered, a.enough, count_few h b e i (omega (arith, a.inside, a.ordered)) (out_before b e i y)) }
+    narrow_before : Narrow d.cell_lengths_buf r.columns n 0 b
+    narrow_before = record { few = λ i x y. omega (arith, a.inside, a.ordered, a.enough, count_few h b e i (omega (arith, a.inside, a.ordered)) (out_before b e i y)) }
 
-    narrow-behind : (last : ℕ) → last < r.n → Narrow d.cell_lengths_buf r.columns n e (last + 1)
-    narrow-behind last l = record { few = λ i x y. omega (arith, a.enough, count_few h b e i (omega arith) (out_behind b e i x)) }
+    narrow_behind : (last : ℕ) → last < r.n → Narrow d.cell_lengths_buf r.columns n e (last + 1)
+    narrow_behind last l = record { few = λ i x y. omega (arith, a.enough, count_few h b e i (omega arith) (out_behind b e i x)) }
 
     module _ (q : b ≡ e) where
       whole_is : long ≡ length (rest_in d r.columns n 0 (r.n - 1))
       unfolding long
       whole_is = ap length (line_whole h n b e q)
 
-      pub whole-measures : Spread d.char_pos_buf d.text_buf (r.n - 1 + 1) × Rows d.cell_starts_buf d.cell_lengths_buf d.tag_bytes_buf r.columns (r.n - 1 + 1)
+      pub whole_measures : Spread d.char_pos_buf d.text_buf (r.n - 1 + 1) × Rows d.cell_starts_buf d.cell_lengths_buf d.tag_bytes_buf r.columns (r.n - 1 + 1)
           × Narrow d.cell_lengths_buf r.columns n 0 (r.n - 1 + 1) × (0 ≤ r.n - 1) × (r.n - 1 ≤ length d.boundaries_buf) × (length (rest_in d r.columns n 0 (r.n - 1)) < 2 ^ 32)
-      whole-measures =
+      whole_measures =
           let s = rest_asked 0 (omega (arith, bounds h)) in
           let f : Narrow d.cell_lengths_buf r.columns n 0 (r.n - 1 + 1) = record { few = λ i x y. omega (arith, a.enough, count_few h b e i (omega (arith, bounds h)) (none_in b e i (omega arith))) } in
           (s.0, s.1, f, s.2, s.3, omega (arith, whole_is, few))
@@ -160,8 +160,8 @@ module _ {r : Record} {d : Buffers} (h : Sheet r d) where
 
     module _ (q : b ≡ e → ⊥) where
       -- the text of the range, and what is written of it
-      pub range-text : (b < length d.char_pos_buf) × (e < length d.char_pos_buf) × (get_or d.char_pos_buf b 0 ≤ get_or d.char_pos_buf e 0)
-      range-text =
+      pub range_text : (b < length d.char_pos_buf) × (e < length d.char_pos_buf) × (get_or d.char_pos_buf b 0 ≤ get_or d.char_pos_buf e 0)
+      range_text =
           let k : b + (e - b) ≡ e = omega (arith, a.ordered) in
           (omega (arith, bounds h, a.ordered, a.inside), omega (arith, bounds h, a.inside), rw k at (climbs n d.text_buf d.boundaries_buf d.char_pos_buf d.cell_starts_buf d.cell_lengths_buf d.tag_bytes_buf r.columns (e - b) b (rw k (spread e a.inside))))
 
@@ -177,41 +177,41 @@ module _ {r : Record} {d : Buffers} (h : Sheet r d) where
             let t = text_lies h last (last + 1) (omega arith) (omega arith) in
             let o = text_long d.char_pos_buf d.text_buf last t in
             let g = sums (get_or d.char_pos_buf b 0) (get_or d.char_pos_buf last 0) (get_or d.char_pos_buf (last + 1) 0) (last - b) n (length (before_in d r.columns n b)) f t.rises in
-            ap length (line-to-end h n b e (omega (arith, a.ordered)) z)
+            ap length (line_to_end h n b e (omega (arith, a.ordered)) z)
             ∙ length-append (before_in d r.columns n b) (covered_in d b (last - b) ++ bare_in d n last)
             ∙ rw (length-append (covered_in d b (last - b)) (bare_in d n last), c, length-append (text_in d last) (replicate n 47), length-replicate {A = ℕ} n 47, o) g
             ∙ ap (λ (x : ℕ). length (before_in d r.columns n b) + (get_or d.char_pos_buf x 0 - get_or d.char_pos_buf b 0) + (last - b) + n) y
 
-        pub end-sum : {k t : ℕ} → k ≡ length (before_in d r.columns n b) → t ≡ get_or d.char_pos_buf e 0 - get_or d.char_pos_buf b 0
+        pub end_sum : {k t : ℕ} → k ≡ length (before_in d r.columns n b) → t ≡ get_or d.char_pos_buf e 0 - get_or d.char_pos_buf b 0
             → (k + t + (r.n - 1 - b) + n ≡ length (written partial (shown_of n b e (spell r d)))) × (k + t + (r.n - 1 - b) + n ≤ 20000000)
         unfolding long
-        end-sum p o = (omega (arith, end_is, p, o), omega (arith, end_is, few, p, o))
+        end_sum p o = (omega (arith, end_is, p, o), omega (arith, end_is, few, p, o))
 
       module _ (z : e ≡ r.n → ⊥) where
-        within-is : long ≡ length (before_in d r.columns n b) + (get_or d.char_pos_buf e 0 - get_or d.char_pos_buf b 0) + (e - b) + length (rest_in d r.columns n e (r.n - 1))
+        within_is : long ≡ length (before_in d r.columns n b) + (get_or d.char_pos_buf e 0 - get_or d.char_pos_buf b 0) + (e - b) + length (rest_in d r.columns n e (r.n - 1))
         unfolding long
-        within-is =
+        within_is =
             let k : b + (e - b) ≡ e = omega (arith, a.ordered) in
             let c = rw k at (covered_sum n d.text_buf d.boundaries_buf d.char_pos_buf d.cell_starts_buf d.cell_lengths_buf d.tag_bytes_buf r.columns (e - b) b (rw k (spread e a.inside))) in
             let v = length-append (before_in d r.columns n b) (covered_in d b (e - b) ++ rest_in d r.columns n e (r.n - 1)) in
             let w = length-append (covered_in d b (e - b)) (rest_in d r.columns n e (r.n - 1)) in
-            omega (arith, ap length (line-within h n b e (omega (arith, a.ordered)) (omega (arith, a.inside))), v, w, c)
+            omega (arith, ap length (line_within h n b e (omega (arith, a.ordered)) (omega (arith, a.inside))), v, w, c)
 
-        pub rest-measures : Spread d.char_pos_buf d.text_buf (r.n - 1 + 1) × Rows d.cell_starts_buf d.cell_lengths_buf d.tag_bytes_buf r.columns (r.n - 1 + 1)
+        pub rest_measures : Spread d.char_pos_buf d.text_buf (r.n - 1 + 1) × Rows d.cell_starts_buf d.cell_lengths_buf d.tag_bytes_buf r.columns (r.n - 1 + 1)
             × Narrow d.cell_lengths_buf r.columns n e (r.n - 1 + 1) × (e ≤ r.n - 1) × (r.n - 1 ≤ length d.boundaries_buf) × (length (rest_in d r.columns n e (r.n - 1)) < 2 ^ 32)
-        rest-measures =
+        rest_measures =
             let s = rest_asked e (omega (arith, a.inside)) in
-            (s.0, s.1, narrow-behind (r.n - 1) (omega (arith, bounds h)), s.2, s.3, omega (arith, within-is, few))
+            (s.0, s.1, narrow_behind (r.n - 1) (omega (arith, bounds h)), s.2, s.3, omega (arith, within_is, few))
 
-        pub within-sum : {k t u : ℕ} → k ≡ length (before_in d r.columns n b) → t ≡ get_or d.char_pos_buf e 0 - get_or d.char_pos_buf b 0 → u ≡ length (rest_in d r.columns n e (r.n - 1))
+        pub within_sum : {k t u : ℕ} → k ≡ length (before_in d r.columns n b) → t ≡ get_or d.char_pos_buf e 0 - get_or d.char_pos_buf b 0 → u ≡ length (rest_in d r.columns n e (r.n - 1))
             → (k + t + (e - b) + u ≡ length (written partial (shown_of n b e (spell r d)))) × (k + t + (e - b) + u ≤ 20000000)
         unfolding long
-        within-sum p o u = (omega (arith, within-is, p, o, u), omega (arith, within-is, few, p, o, u))
+        within_sum p o u = (omega (arith, within_is, p, o, u), omega (arith, within_is, few, p, o, u))
 
-      pub before-measures : Spread d.char_pos_buf d.text_buf b × Rows d.cell_starts_buf d.cell_lengths_buf d.tag_bytes_buf r.columns b × Narrow d.cell_lengths_buf r.columns n 0 b
+      pub before_measures : Spread d.char_pos_buf d.text_buf b × Rows d.cell_starts_buf d.cell_lengths_buf d.tag_bytes_buf r.columns b × Narrow d.cell_lengths_buf r.columns n 0 b
           × (b ≤ length d.boundaries_buf + 1) × (length (before_in d r.columns n b) < 2 ^ 32)
-      before-measures = (spread b (omega (arith, a.ordered, a.inside)), rows b (omega (arith, a.ordered, a.inside)), narrow-before, omega (arith, bounds h, a.ordered, a.inside), on (eqb e r.n) refl)
+      before_measures = (spread b (omega (arith, a.ordered, a.inside)), rows b (omega (arith, a.ordered, a.inside)), narrow_before, omega (arith, bounds h, a.ordered, a.inside), on (eqb e r.n) refl)
         where
           on : (t : Bool) → eqb e r.n ≡ t → length (before_in d r.columns n b) < 2 ^ 32
           on true p = omega (arith, end_is (eqb-true e r.n p), few)
-          on false p = omega (arith, within-is (eqb-false e r.n p), few)
+          on false p = omega (arith, within_is (eqb-false e r.n p), few)

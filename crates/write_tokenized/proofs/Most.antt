@@ -13,7 +13,7 @@ use Rattle.laws.specs.If.{when◌then◌else◌}
 use Rattle.sentence.specs.Sentence.{Tag, Sentence, text, marks, rows, pad, row_bytes, tag_bytes, Row}
 use Rattle.sentence.specs.declared.Form.TheVariants.{Tokenized as tokenized}
 use Rattle.sentence.specs.Writing.{Token, token, surface, escape, write_tags, write_token, joined, line, written, serves, next_token_of}
-use Rattle.sentence.proofs.Tokens.{InOrder, onward, onward_start, by-steps}
+use Rattle.sentence.proofs.Tokens.{InOrder, onward, onward_start, by_steps}
 use Rattle.sheet.specs.declared.Record.{Record}
 use Rattle.sheet.specs.Layout.{Buffers, bytes_of, Holds}
 use Rattle.sheet.proofs.Held.{length_bytes_of, columns_held, rows_held}
@@ -97,7 +97,7 @@ module _ {r : Record} {d : Buffers} {s : Sentence} (h : Holds r d s) where
 
   left_most : (p : ℕ) → p ≤ length (marks s) + 1 → (some : Bool) → length (encodes (spaced some (map (write_token s) (onward (marks s) p)))) ≤ room p
   unfolding spaced encodes
-  left_most = by-steps (marks s) (λ p ts. (some : Bool) → length (encodes (spaced some (map (write_token s) ts))) ≤ room p) (λ p k e some. omega arith) more
+  left_most = by_steps (marks s) (λ p ts. (some : Bool) → length (encodes (spaced some (map (write_token s) ts))) ≤ room p) (λ p k e some. omega arith) more
     where
       more : (p b e : ℕ) (ts : List Token) → next_token_of (marks s) (length (marks s) + 1) p ≡ serves (token b e) → InOrder (marks s) p b e
           → ((some : Bool) → length (encodes (spaced some (map (write_token s) ts))) ≤ room e)

@@ -77,18 +77,18 @@ token_start {r} {d} out h l = record { sheet = h; bounded = bounded_held h; writ
 
 module _ {r : Record} {d : Buffers} {out₀ out : List ℕ} {n p : ℕ} {some : Bool} (t : Tokening r d out₀ out n p some) where
   module _ {b e : ℕ} (f : Comes r d p b e) where
-    pub gap-asks : n + length (gap some) ≤ length out
-    gap-asks = write_fits t.writing (gap some) _ (left_next t.sheet some p f)
+    pub gap_asks : n + length (gap some) ≤ length out
+    gap_asks = write_fits t.writing (gap some) _ (left_next t.sheet some p f)
 
     module _ {o₁ : List ℕ} {n₁ : ℕ} (v : Wrote out n (gap some) o₁ n₁) where
       behind : Writing out₀ 0 (written tokenized (spell r d)) o₁ n₁ (token_in r d b e ++ left_from (spell r d) true e)
       behind = write_item t.writing (left_next t.sheet some p f) v
 
-      pub token-asks : (1 ≤ e) × TextLies d.char_pos_buf d.text_buf b e × RowLies d.cell_starts_buf d.cell_lengths_buf d.tag_bytes_buf r.columns (e - 1) × (n₁ + length (token_in r d b e) ≤ length o₁)
-      token-asks = (omega arith, text_lies t.sheet b e (omega arith) f.within, row_lies t.sheet (e - 1) (omega arith), write_fits behind (token_in r d b e) _ refl)
+      pub token_asks : (1 ≤ e) × TextLies d.char_pos_buf d.text_buf b e × RowLies d.cell_starts_buf d.cell_lengths_buf d.tag_bytes_buf r.columns (e - 1) × (n₁ + length (token_in r d b e) ≤ length o₁)
+      token_asks = (omega arith, text_lies t.sheet b e (omega arith) f.within, row_lies t.sheet (e - 1) (omega arith), write_fits behind (token_in r d b e) _ refl)
 
-      pub token-next : {o₂ : List ℕ} {n₂ : ℕ} → Wrote o₁ n₁ (token_in r d b e) o₂ n₂ → Tokening r d out₀ o₂ n₂ e true
-      token-next w = record { sheet = t.sheet; bounded = t.bounded; writing = write_item behind refl w }
+      pub token_next : {o₂ : List ℕ} {n₂ : ℕ} → Wrote o₁ n₁ (token_in r d b e) o₂ n₂ → Tokening r d out₀ o₂ n₂ e true
+      token_next w = record { sheet = t.sheet; bounded = t.bounded; writing = write_item behind refl w }
 
   pub token_done : {a : Step} {q : ℕ} → a ≡ step_of (next_token_of (marks_in r.n d.boundaries_buf) r.n p) → a ≡ Done q → Lined (written tokenized (spell r d)) out₀ out n
   token_done x y = lined (omega (arith, t.writing.room)) (write_done t.writing (left_none t.sheet some p x y))
@@ -113,21 +113,21 @@ module _ {r : Record} {d : Buffers} {sum p : ℕ} {some : Bool} (t : Summing r d
     parts : sum + (length (gap some) + (length (token_in r d b e) + length (left_from (spell r d) true e))) ≡ length (written tokenized (spell r d))
     parts = omega (arith, t.same, ap length (left_next t.sheet some p f), length-append (gap some) (token_in r d b e ++ left_from (spell r d) true e), length-append (token_in r d b e) (left_from (spell r d) true e))
 
-    pub sum-asks : (1 ≤ e) × TextLies d.char_pos_buf d.text_buf b e × RowLies d.cell_starts_buf d.cell_lengths_buf d.tag_bytes_buf r.columns (e - 1)
+    pub sum_asks : (1 ≤ e) × TextLies d.char_pos_buf d.text_buf b e × RowLies d.cell_starts_buf d.cell_lengths_buf d.tag_bytes_buf r.columns (e - 1)
         × (length (token_in r d b e) < 2 ^ 32)
-    sum-asks = (omega arith, text_lies t.sheet b e (omega arith) f.within, row_lies t.sheet (e - 1) (omega arith), omega (arith, parts, t.few))
+    sum_asks = (omega arith, text_lies t.sheet b e (omega arith) f.within, row_lies t.sheet (e - 1) (omega arith), omega (arith, parts, t.few))
 
     -- the sums are small
     module _ {g : ℕ} (x : g ≡ length (gap some)) where
-      pub sum-gap : sum + g ≤ 20000000
-      sum-gap = omega (arith, parts, t.few)
+      pub sum_gap : sum + g ≤ 20000000
+      sum_gap = omega (arith, parts, t.few)
 
       module _ {u : ℕ} (y : u ≡ length (token_in r d b e)) where
-        pub sum-few : sum + g + u ≤ 20000000
-        sum-few = omega (arith, parts, t.few)
+        pub sum_few : sum + g + u ≤ 20000000
+        sum_few = omega (arith, parts, t.few)
 
-        pub sum-next : Summing r d (sum + g + u) e true
-        sum-next = record { sheet = t.sheet; bounded = t.bounded; few = t.few; same = omega (arith, parts) }
+        pub sum_next : Summing r d (sum + g + u) e true
+        sum_next = record { sheet = t.sheet; bounded = t.bounded; few = t.few; same = omega (arith, parts) }
 
   pub sum_done : {a : Step} {q : ℕ} → a ≡ step_of (next_token_of (marks_in r.n d.boundaries_buf) r.n p) → a ≡ Done q → sum ≡ length (written tokenized (spell r d))
   sum_done x y = omega (arith, t.same, ap length (left_none t.sheet some p x y))

@@ -1,5 +1,5 @@
 -- `sheet::is_laid` meets its contract.
-use Rattle.sheet.proofs.Whole.{prefix_long, no_text, no-marks, laid_is}
+use Rattle.sheet.proofs.Whole.{prefix_long, no_text, no_marks, laid_is}
 use Rattle.sheet.proofs.is_laid.Goals as goal
 
 pub slice_bounds-is_text-end : goal.slice_bounds-is_text-end
@@ -21,7 +21,7 @@ pub slice_bounds-are_marks-length : goal.slice_bounds-are_marks-length
 slice_bounds-are_marks-length c = search prefix_long
 
 pub returns-then-not-are_marks : goal.returns-then-not-are_marks
-returns-then-not-are_marks c = search no-marks
+returns-then-not-are_marks c = search no_marks
 
 pub slice_bounds-are_cells-end : goal.slice_bounds-are_cells-end
 slice_bounds-are_cells-end c = search prefix_long

@@ -1,6 +1,6 @@
 -- `sheet_check::each_cell` meets its contract.
 use native.Mathlib.Omega.{arith}
-use Rattle.sheet_check.proofs.Cells.{cells_start, cells-go, cells-no, cells-done}
+use Rattle.sheet_check.proofs.Cells.{cells_start, cells_go, cells_no, cells_done}
 use Rattle.sheet_check.proofs.each_cell.Goals as goal
 
 pub loop-i-init : goal.loop-i-init
@@ -16,13 +16,13 @@ pub is_cell-requires : goal.is_cell-requires
 is_cell-requires c = omega (arith, c.type_inv.lengths c.loop-i.i)
 
 pub returns-then-not-is_cell : goal.returns-then-not-is_cell
-returns-then-not-is_cell c = search cells-no
+returns-then-not-is_cell c = search cells_no
 
 pub overflow_add-from : goal.overflow_add-from
 overflow_add-from c = omega (arith, c.type_inv.lengths c.loop-i.i)
 
 pub loop-i-preserved : goal.loop-i-preserved
-loop-i-preserved c = search cells-go
+loop-i-preserved c = search cells_go
 
 pub returns : goal.returns
-returns c = search cells-done
+returns c = search cells_done

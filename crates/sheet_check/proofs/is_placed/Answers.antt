@@ -2,7 +2,7 @@
 use mathlib.Core.Path.{ap}
 use mathlib.Core.Bool.{not}
 use native.Mathlib.Omega.{arith}
-use Rattle.sheet_check.proofs.Steps.{Reach, reach, read_start, read-few, read_fits, read_no, read-go, read_bad, read_end, read_done}
+use Rattle.sheet_check.proofs.Steps.{Reach, reach, read_start, read_few, read_fits, read_no, read_go, read_bad, read_end, read_done}
 use Rattle.sheet_check.proofs.is_placed.Goals as goal
 use Rattle.sheet_check.proofs.is_placed.Goals.{In-Char}
 
@@ -10,7 +10,7 @@ pub loop-at-init : goal.loop-at-init
 loop-at-init c = search read_start
 
 pub returns-then-i-types : goal.returns-then-i-types
-returns-then-i-types c = search read-few
+returns-then-i-types c = search read_few
 
 pub is_char-requires : goal.is_char-requires
 is_char-requires c = search read_fits
@@ -29,7 +29,7 @@ pub loop-at-smaller : goal.loop-at-smaller
 loop-at-smaller c = omega (arith, reached (goal.at.loop-at-smaller c).In-Char)
 
 pub loop-at-preserved : goal.loop-at-preserved
-loop-at-preserved c = read-go _ _ _ _ _ _ c.requires c.loop-at.invariant _ _ _ c.decode.ensures c.in-Char.is _ _ c.if-i-types.false c.get_type-kind.ensures c.is_char.ensures (ap not c.if-not-is_char.false)
+loop-at-preserved c = read_go _ _ _ _ _ _ c.requires c.loop-at.invariant _ _ _ c.decode.ensures c.in-Char.is _ _ c.if-i-types.false c.get_type-kind.ensures c.is_char.ensures (ap not c.if-not-is_char.false)
 
 pub returns-in-Bad : goal.returns-in-Bad
 returns-in-Bad c = search read_bad

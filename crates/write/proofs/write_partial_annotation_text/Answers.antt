@@ -2,7 +2,7 @@
 use mathlib.Core.Path.{refl}
 use Rattle.sheet.proofs.Look.{checked}
 use Rattle.write_items.proofs.Room.{short_none}
-use Rattle.write.proofs.Laws.{put_13, put-12, put_line}
+use Rattle.write.proofs.Laws.{put_13, put_12, put_line}
 use mathlib.Core.Bool.{not}
 use mathlib.Core.Path.{ap}
 use Rattle.write.proofs.write_partial_annotation_text.Goals as goal
@@ -14,7 +14,7 @@ pub partial_short-needed-requires : goal.partial_short-needed-requires
 partial_short-needed-requires c = checked _ _ _ c.check.ensures (ap not c.if-not-check.false)
 
 pub returns-then-needed-gt0 : goal.returns-then-needed-gt0
-returns-then-needed-gt0 c = put-12 _ _ _ _ _ _ _ c.check.ensures (ap not c.if-not-check.false) refl _ c.partial_short-needed.ensures c.if-needed-gt0.true c.too_short.ensures
+returns-then-needed-gt0 c = put_12 _ _ _ _ _ _ _ c.check.ensures (ap not c.if-not-check.false) refl _ c.partial_short-needed.ensures c.if-needed-gt0.true c.too_short.ensures
 
 pub partial_into-n-requires : goal.partial_into-n-requires
 partial_into-n-requires c = (checked _ _ _ c.check.ensures (ap not c.if-not-check.false), short_none _ _ c.partial_short-needed.ensures c.if-needed-gt0.false)

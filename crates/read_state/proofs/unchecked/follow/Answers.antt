@@ -1,5 +1,5 @@
 -- `read_state::unchecked::follow` meets its contract.
-use Rattle.read_state.proofs.Steps.{hands_escaped, hands_literal, hands-mark, hands-slash, hands-back, hands_plain}
+use Rattle.read_state.proofs.Steps.{hands_escaped, hands_literal, hands_mark, hands_slash, hands_back, hands_plain}
 use Rattle.read_state.proofs.unchecked.follow.Goals as goal
 
 pub returns-then-s : goal.returns-then-s
@@ -9,13 +9,13 @@ pub returns-then-is_literal : goal.returns-then-is_literal
 returns-then-is_literal c = search hands_literal
 
 pub returns-in-Mark : goal.returns-in-Mark
-returns-in-Mark c = search hands-mark
+returns-in-Mark c = search hands_mark
 
 pub returns-in-Slash : goal.returns-in-Slash
-returns-in-Slash c = search hands-slash
+returns-in-Slash c = search hands_slash
 
 pub returns-in-Back : goal.returns-in-Back
-returns-in-Back c = search hands-back
+returns-in-Back c = search hands_back
 
 pub returns-in-Plain : goal.returns-in-Plain
 returns-in-Plain c = search hands_plain

@@ -1,5 +1,5 @@
 -- `write_items::unchecked::tags_into` meets its contract. The invariant: the tags from the j-th cell on are left to write.
-use Rattle.write_items.proofs.Tags.{tag-part, tagging}
+use Rattle.write_items.proofs.Tags.{tag_part, tagging}
 use borrow.Author.Rules.{rules}
 use Rattle.write_items.proofs.unchecked.tags_into.Goals as goal
 
@@ -25,7 +25,7 @@ pub overflow_add-n : goal.overflow_add-n
 overflow_add-n c = search (tagging, rules)
 
 pub copy_escaped-n-requires : goal.copy_escaped-n-requires
-copy_escaped-n-requires c = tag-part c.loop-j.invariant c.loop-j-test.true c.wide-from.ensures c.end_of-to.ensures
+copy_escaped-n-requires c = tag_part c.loop-j.invariant c.loop-j-test.true c.wide-from.ensures c.end_of-to.ensures
 
 pub overflow_add-j : goal.overflow_add-j
 overflow_add-j c = search (tagging, rules)

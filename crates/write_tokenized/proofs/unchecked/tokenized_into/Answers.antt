@@ -1,7 +1,7 @@
 -- `write_tokenized::unchecked::tokenized_into` meets its contract. The invariant: the tokens from the cursor on are left to write.
 use native.Mathlib.Omega.{arith}
 use Rattle.sheet.specs.Layout.{buffers}
-use Rattle.write_tokenized.proofs.Turns.{Comes, comes, token_start, gap-asks, token-asks, token-next, token_done}
+use Rattle.write_tokenized.proofs.Turns.{Comes, comes, token_start, gap_asks, token_asks, token_next, token_done}
 use Rattle.write_tokenized.proofs.unchecked.tokenized_into.Goals as goal
 use Rattle.write_tokenized.proofs.unchecked.tokenized_into.Goals.{After-wide-e}
 
@@ -17,16 +17,16 @@ served : (c : After-wide-e) →
 served c = search comes
 
 pub gap_into-n-requires : goal.gap_into-n-requires
-gap_into-n-requires c = gap-asks c.loop-t.invariant (served (goal.at.gap_into-n-requires c).After-wide-e)
+gap_into-n-requires c = gap_asks c.loop-t.invariant (served (goal.at.gap_into-n-requires c).After-wide-e)
 
 pub token_into-n-requires : goal.token_into-n-requires
-token_into-n-requires c = token-asks c.loop-t.invariant (served (goal.at.token_into-n-requires c).After-wide-e) c.gap_into-n.ensures
+token_into-n-requires c = token_asks c.loop-t.invariant (served (goal.at.token_into-n-requires c).After-wide-e) c.gap_into-n.ensures
 
 pub loop-t-smaller : goal.loop-t-smaller
 loop-t-smaller c = omega (arith, served (goal.at.loop-t-smaller c).After-wide-e)
 
 pub loop-t-preserved : goal.loop-t-preserved
-loop-t-preserved c = token-next c.loop-t.invariant (served (goal.at.loop-t-preserved c).After-wide-e) c.gap_into-n.ensures c.token_into-n.ensures
+loop-t-preserved c = token_next c.loop-t.invariant (served (goal.at.loop-t-preserved c).After-wide-e) c.gap_into-n.ensures c.token_into-n.ensures
 
 pub returns-in-Done : goal.returns-in-Done
 returns-in-Done c = search token_done

@@ -1,7 +1,7 @@
 -- `write_tokenized::unchecked::tokenized_len` meets its contract. The invariant: with the tokens from the cursor on, the sum is the whole.
 use native.Mathlib.Omega.{arith}
 use Rattle.sheet.specs.Layout.{buffers}
-use Rattle.write_tokenized.proofs.Turns.{Comes, comes, sum_start, sum-asks, sum-gap, sum-few, sum-next, sum_done}
+use Rattle.write_tokenized.proofs.Turns.{Comes, comes, sum_start, sum_asks, sum_gap, sum_few, sum_next, sum_done}
 use Rattle.write_tokenized.proofs.unchecked.tokenized_len.Goals as goal
 use Rattle.write_tokenized.proofs.unchecked.tokenized_len.Goals.{After-wide-e}
 
@@ -17,19 +17,19 @@ served : (c : After-wide-e) →
 served c = search comes
 
 pub overflow_add-sum : goal.overflow_add-sum
-overflow_add-sum c = omega (arith, sum-gap c.loop-t.invariant (served (goal.at.overflow_add-sum c).After-wide-e) c.gap_len-sum.ensures)
+overflow_add-sum c = omega (arith, sum_gap c.loop-t.invariant (served (goal.at.overflow_add-sum c).After-wide-e) c.gap_len-sum.ensures)
 
 pub token_len-sum-requires : goal.token_len-sum-requires
-token_len-sum-requires c = sum-asks c.loop-t.invariant (served (goal.at.token_len-sum-requires c).After-wide-e)
+token_len-sum-requires c = sum_asks c.loop-t.invariant (served (goal.at.token_len-sum-requires c).After-wide-e)
 
 pub overflow_add-sum-in-Serves : goal.overflow_add-sum-in-Serves
-overflow_add-sum-in-Serves c = omega (arith, sum-few c.loop-t.invariant (served (goal.at.overflow_add-sum-in-Serves c).After-wide-e) c.gap_len-sum.ensures c.token_len-sum.ensures)
+overflow_add-sum-in-Serves c = omega (arith, sum_few c.loop-t.invariant (served (goal.at.overflow_add-sum-in-Serves c).After-wide-e) c.gap_len-sum.ensures c.token_len-sum.ensures)
 
 pub loop-t-smaller : goal.loop-t-smaller
 loop-t-smaller c = omega (arith, served (goal.at.loop-t-smaller c).After-wide-e)
 
 pub loop-t-preserved : goal.loop-t-preserved
-loop-t-preserved c = sum-next c.loop-t.invariant (served (goal.at.loop-t-preserved c).After-wide-e) c.gap_len-sum.ensures c.token_len-sum.ensures
+loop-t-preserved c = sum_next c.loop-t.invariant (served (goal.at.loop-t-preserved c).After-wide-e) c.gap_len-sum.ensures c.token_len-sum.ensures
 
 pub returns-in-Done : goal.returns-in-Done
 returns-in-Done c = search sum_done

@@ -1,7 +1,7 @@
 -- `respelling::unchecked::stream::step` meets its contract.
 use native.Mathlib.Omega.{arith}
 use lib.ListN.{length-take}
-use Rattle.respelling.proofs.Steps.{step_full, step_cut, step-last, step_waits}
+use Rattle.respelling.proofs.Steps.{step_full, step_cut, step_last, step_waits}
 use Rattle.respelling.proofs.unchecked.stream.step.Goals as goal
 
 pub returns-then-out-at-lt8194 : goal.returns-then-out-at-lt8194
@@ -14,7 +14,7 @@ pub returns-then-n-s : goal.returns-then-n-s
 returns-then-n-s c = search step_cut
 
 pub returns-then-last-s : goal.returns-then-last-s
-returns-then-last-s c = search step-last
+returns-then-last-s c = search step_last
 
 pub returns : goal.returns
 returns c = search step_waits
