@@ -9,7 +9,7 @@ usage() {
 usage: bash test.sh [--without-rust]
        bash test.sh --help
 
-Everything that must hold here, from nothing:
+Everything that must hold here:
   rt ci            every crate proved, every must-fail edit refused, every program run; an edit that cannot be tried is a failure
   checks/run.sh    the checks that need no Rust
   host/check.sh    the Rust part: the port compared with the original Rust
@@ -21,7 +21,8 @@ It needs rt (the kit's command) and python3. The Rust part also needs the origin
 checkout, named by VAPORETTO_SRC unless it is ../shared/docs/src/vaporetto/src) and a compiler (host/README.md). Where one of them
 is missing that part is not run, which is a failure, and the line before the last says what is missing.
 
-It takes 20 to 30 minutes on two processors, two or three of them for the Rust part.
+From nothing it takes half an hour or so on four processors. Where rt ci has passed the same crates on this machine before, it proves
+only what changed: with no change it takes five to ten minutes, two or three of them for the Rust part.
 
 What the Rust part lacks of Debian's packages (a compiler; python3) is installed by apt-get where this runs as root. Nothing is
 installed where it is there already, with --without-rust, without the original's sources, or with IGHDELMUR_INSTALL=no in the

@@ -176,7 +176,7 @@ unset word host
 without=rustc installs=yes expect 'a compiler installed' 0 '10 passed, 0 failed' '' 'rustc-web' APT_GIVES=rustc
 
 # The words of test.sh.
-for said in 'usage: bash test.sh' '--without-rust' VAPORETTO_SRC python3 'minutes on two processors' 'installed' 'Status 0'; do
+for said in 'usage: bash test.sh' '--without-rust' VAPORETTO_SRC python3 'on four processors' 'installed' 'Status 0'; do
     ends 'the help' 0 "$said" bash "$here/test.sh" --help
 done
 ends 'an unknown word' 2 "there is no '--quick'" bash "$here/test.sh" --quick
