@@ -79,7 +79,7 @@ def lemma_file(path):
     steps = path.split("/")
     if not path.endswith(".antt"):
         return False
-    if steps[-1] in ("Answers.antt", "Invariants.antt"):
+    if len(steps) > 4 and steps[2] == "proofs" and steps[-1] in ("Answers.antt", "Invariants.antt"):
         return False
     return steps[2] == "specs" or (steps[2] == "proofs" and not os.path.exists(os.path.join(os.path.dirname(path), "Proof.antt")))
 
