@@ -1,4 +1,5 @@
 -- Where a change answers a sentence, its record and the buffers hold the changed sentence. Assumes nothing.
+use Rattle.std.specs.Prelude.{Ok, Err}
 use Prim.Native.Nat.{ℕ, ◌*◌, ◌≤◌}
 use native.Mathlib.Omega.{arith}
 use mathlib.Core.Path.{◌≡◌, refl, sym, subst, ap, ◌∙◌}
@@ -14,8 +15,7 @@ use Rattle.sentence.specs.Sentence.{Sentence, text, rows, count, text_of, rows_o
 use Rattle.sentence.specs.Writing.{set_boundary_of, reset_tags_of, blank}
 use Rattle.sentence.specs.Refusals.{Check, verdict}
 use Rattle.sheet.specs.declared.Record.{Record}
-use Rattle.sheet.specs.declared.Answer.{Answer}
-use Rattle.sheet.specs.declared.Answer.TheVariants as answer
+use Rattle.sheet.specs.Answers.{Answer}
 use Rattle.sheet.specs.Layout.{Buffers, record_of, room_for, Holds, spell, mark_of}
 use Rattle.sheet.proofs.Held.{laid_holds}
 use Rattle.sheet.proofs.Eights.{same_is}
@@ -29,7 +29,7 @@ unfolding blank text_of rows_of size width row_bytes tag_bytes cut scalar when�
 blank_formed = record { cells_are = (record { is_scalar = refl; not_nul = refl }, record { chars = tt; is_cut = refl; fits = omega arith }); text_fits = omega arith; columns_fit = omega arith; bytes_fit = omega arith }
 
 -- an answer that is a sentence is no refusal
-apart : (q : Record) (x : Refusal) → answer.Refused x ≡ answer.Sentence q → ⊥
+apart : (q : Record) (x : Refusal) → Err x ≡ Ok q → ⊥
 apart q x e = let z : ◌≡◌ {A = ℕ} 0 1 = cc in omega arith
 
 -- the room of a sentence whose text is the held one's, and that has no more tag bytes, where there is room for its cells
@@ -53,22 +53,22 @@ cells_room d n h = let k = neither _ _ h in (ltb-false _ n k.0, ltb-false _ n k.
 
 -- what is laid down is held
 pub lays_holds : (cs : List Check) (t : Sentence) (d : Buffers) (a : Answer) (e : Buffers) (q : Record)
-    → Lays (verdict answer.Refused cs (answer.Sentence (record_of t))) t d a e → a ≡ answer.Sentence q
+    → Lays (verdict Err cs (Ok (record_of t))) t d a e → a ≡ Ok q
     → (Passed cs → Formed t × (room_for (record_of t) d ≡ true)) → Holds q e t
 lays_holds cs t d a e q l h fits =
-    let p = passed answer.Refused (answer.Sentence q) (apart q) cs (answer.Sentence (record_of t)) (sym l.answer_is ∙ h) in
+    let p = passed Err (Ok q) (apart q) cs (Ok (record_of t)) (sym l.answer_is ∙ h) in
     let f = fits p.0 in
     let x : record_of t ≡ q = cc p.1 in
-    let m : Lays (verdict answer.Refused cs (answer.Sentence (record_of t))) t d (answer.Sentence q) e = rw h at l in
+    let m : Lays (verdict Err cs (Ok (record_of t))) t d (Ok q) e = rw h at l in
     subst (λ (y : Buffers). Holds q y t) (sym (same_is m.leaves)) (rw x at (laid_holds t d f.0 f.1))
 
 -- ---- each call
-pub default_holds : (d : Buffers) (a : Answer) (e : Buffers) (q : Record) → DefaultSet d a e → a ≡ answer.Sentence q → Holds q e blank
+pub default_holds : (d : Buffers) (a : Answer) (e : Buffers) (q : Record) → DefaultSet d a e → a ≡ Ok q → Holds q e blank
 unfolding default_answer
 default_holds d a e q l h = lays_holds _ blank d a e q l h (λ p. (blank_formed, not-false _ p.0))
 
 pub boundary_holds : (r : Record) (d : Buffers) (i v : ℕ) (a : Answer) (e : Buffers) (q : Record)
-    → BoundarySet r d i v a e → a ≡ answer.Sentence q → Holds q e (set_boundary_of i (mark_of v) (spell r d))
+    → BoundarySet r d i v a e → a ≡ Ok q → Holds q e (set_boundary_of i (mark_of v) (spell r d))
 unfolding boundary_answer set_boundary_of
 boundary_holds r d i v a e q l h =
     let s = spell r d in
@@ -79,7 +79,7 @@ boundary_holds r d i v a e q l h =
     (set_formed i m s k.formed, room_kept k (set_boundary_of i m s) (text_set i m s.cells) (omega (arith, (bounds k).cells_is, kept_columns k, bounds k)) (omega (arith, (bounds k).cells_is, kept_columns k, bounds k)) (rw x (omega (arith, bounds k)))))
 
 pub reset_holds : (r : Record) (d : Buffers) (c : ℕ) (a : Answer) (e : Buffers) (q : Record)
-    → TagsReset r d c a e → a ≡ answer.Sentence q → Holds q e (reset_tags_of c (spell r d))
+    → TagsReset r d c a e → a ≡ Ok q → Holds q e (reset_tags_of c (spell r d))
 unfolding reset_answer reset_tags_of
 reset_holds r d c a e q l h =
     let s = spell r d in

@@ -1,4 +1,5 @@
 -- The one-blank sentence: its room, and what its stores make of the buffers. Assumes nothing.
+use Rattle.std.specs.Prelude.{Ok, Err}
 use Prim.Native.Nat.{◌≤◌}
 use mathlib.Core.Path.{◌≡◌, refl, sym, ◌∙◌}
 use mathlib.Core.Bool.{Bool, true, false, not, ◌&&◌, and-true}
@@ -14,11 +15,10 @@ use Rattle.utf8.specs.Utf8.{width, encode, encodes, size}
 use Rattle.types.specs.TypeOf.{find, ranges, type_of}
 use Rattle.sentence.specs.Sentence.{text_of, marks_of, rows_of, starts, numbers, pad, row_bytes, tag_bytes}
 use Rattle.sentence.specs.Writing.{blank}
-use Rattle.sentence.specs.Refusals.{verdict}
+use Rattle.sentence.specs.Refusals.{refusal, verdict}
 use Rattle.sheet.specs.Layout.{Buffers, buffers, record_of, tags_of, cells_of, cell_starts, bytes_of, lay, laid, enough, room_for}
 use Rattle.sheet.specs.Eight.{all}
 use Rattle.sheet.proofs.Eights.{in_order, same_self}
-use Rattle.sheet.specs.declared.Answer.TheVariants as answer
 use Rattle.changes.specs.Changes.{DefaultSet, default_answer}
 
 -- the room, by the lengths that the code tests
@@ -41,13 +41,13 @@ pub room : (d : Buffers) → fits d ≡ true → Room d
 room d = simp reads (omega arith)
 
 -- the way through `set_default` that refuses
-pub blank_refused : (d : Buffers) (r : Bool) → r ≡ fits d → not r ≡ true → DefaultSet d (answer.Refused (record { number = 15; place = 0 })) d
+pub blank_refused : (d : Buffers) (r : Bool) → r ≡ fits d → not r ≡ true → DefaultSet d (Err (refusal 15 0)) d
 unfolding default_answer verdict when◌then◌else◌
 blank_refused d r e h = record { answer_is = rw (room_is d, ← e, not-true r h); leaves = same_self d }
 
 -- and the way that lays the sentence down
 pub blank_laid : (d : Buffers) (r : Bool) → r ≡ fits d → not r ≡ false
-    → DefaultSet d (answer.Sentence (record { n = 1; b = 1; columns = 0; cells = 0; g = 0 }))
+    → DefaultSet d (Ok (record { n = 1; b = 1; columns = 0; cells = 0; g = 0 }))
     (buffers (set d.text_buf 0 32) (set d.types_buf 0 6) d.boundaries_buf (set (set d.char_pos_buf 0 0) 1 1) (set (set d.byte_pos_buf 0 0) 1 1) d.cell_starts_buf d.cell_lengths_buf d.tag_bytes_buf)
 unfolding default_answer verdict when◌then◌else◌ blank record_of lay laid text_of marks_of rows_of starts numbers size width encode encodes find ranges type_of row_bytes tag_bytes tags_of cells_of pad cell_starts bytes_of
 blank_laid d r e h =

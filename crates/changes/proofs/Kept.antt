@@ -1,9 +1,10 @@
 -- What buffers that hold a sentence become where another is laid over it: what both have in common stays. Assumes nothing.
+use Rattle.std.specs.Prelude.{Ok}
 use Prim.Native.Nat.{ℕ, zero, suc, ◌+◌, ◌-◌, ◌*◌, ◌≤◌, ◌<◌}
 use native.Mathlib.Omega.{arith}
 use mathlib.Core.Path.{◌≡◌, refl, sym, ap, ◌∙◌}
 use mathlib.Core.List.{List, [], ◌∷◌, ◌++◌, map}
-use lib.ListN.{length, drop, replicate, set, length-set, length-replicate, replicate-append-replicate}
+use lib.ListN.{drop, replicate, set, length-set, length-replicate, replicate-append-replicate}
 use lib.Seq.{set-append_left}
 use Rattle.laws.specs.Put.{over}
 use Rattle.utf8.specs.Utf8.{size}
@@ -15,7 +16,6 @@ use Rattle.sheet.specs.Layout.{Buffers, with_boundaries, with_cells, record_of, 
 use Rattle.sheet.proofs.Eights.{in_order, one, pick_pairwise}
 use Rattle.sheet.proofs.Held.{prefixes_held, Prefix, boundaries_held}
 use Rattle.sheet.proofs.Look.{bounds, prefix_whole, prefix_length}
-use Rattle.sheet.specs.declared.Answer.TheVariants as answer
 use Rattle.changes.specs.Changes.{Laid}
 use Rattle.changes.proofs.Changed.{text_set, rows_set, marks_set, text_bare, marks_bare, rows_bare, no_tag_bytes}
 
@@ -66,21 +66,6 @@ unfolding tags_of
 no_tags zero = refl
 no_tags (suc n) = no_tags n
 
--- zeros that are left to store
-pub zeros_step : (n i : ℕ) → i < n → replicate {A = ℕ} (n - i) 0 ≡ 0 ∷ replicate (n - (i + 1)) 0
-zeros_step n i h = let e : n - i ≡ suc (n - (i + 1)) = omega arith in rw e
-
-pub zeros_none : (n i : ℕ) → n ≤ i → replicate {A = ℕ} (n - i) 0 ≡ []
-zeros_none n i h = let e : n - i ≡ 0 = omega arith in rw e
-
-pub zeros_all : (n : ℕ) → replicate {A = ℕ} (n - 0) 0 ≡ replicate n 0
-zeros_all n = let e : n - 0 ≡ n = omega arith in rw e
-
-pub zeros_long : (n : ℕ) → length (replicate {A = ℕ} n 0) ≡ n
-zeros_long n = length-replicate n 0
-
-pub ruleset zeros = (zeros_step, zeros_none, zeros_all, zeros_long)
-
 module _ {r : Record} {d : Buffers} {s : Sentence} (h : Holds r d s) where
   -- a buffer stays whose list is the same
   pub stays : (t : Sentence) (i : Which) → pick (lay t) i ≡ pick (lay s) i → pick d i ≡ pick (laid t d) i
@@ -110,7 +95,7 @@ module _ {r : Record} {d : Buffers} {s : Sentence} (h : Holds r d s) where
 
   -- ---- what the calls leave
   pub boundary_lays : (i v : ℕ) → i < r.n - 1 → v ≤ 2
-      → Laid (set_boundary_of i (mark_of v) s) d (answer.Sentence r)
+      → Laid (set_boundary_of i (mark_of v) s) d (Ok r)
       (with_boundaries (set d.boundaries_buf i v) d)
   unfolding lay record_of set_boundary_of
   boundary_lays i v k l =
@@ -125,7 +110,7 @@ module _ {r : Record} {d : Buffers} {s : Sentence} (h : Holds r d s) where
       }
 
   pub reset_lays : (c : ℕ) (b l : List ℕ) → b ≡ replicate (r.n * c) 0 ++ drop (r.n * c) d.cell_starts_buf → l ≡ replicate (r.n * c) 0 ++ drop (r.n * c) d.cell_lengths_buf
-      → Laid (reset_tags_of c s) d (answer.Sentence (record { n = r.n; b = r.b; columns = c; cells = r.n * c; g = 0 }))
+      → Laid (reset_tags_of c s) d (Ok (record { n = r.n; b = r.b; columns = c; cells = r.n * c; g = 0 }))
       (with_cells b l d)
   unfolding lay record_of reset_tags_of
   reset_lays c v l e f =

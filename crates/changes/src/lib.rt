@@ -2,11 +2,12 @@
 #![tactic(auto)]
 
 ghost use Rattle.std.specs.Prelude.{◌≡◌, ◌&&◌, leb};
-ghost use Rattle.sheet.specs.Layout.{lent_after, lent_before, with_boundaries, with_cells};
+ghost use Rattle.sheet.specs.Layout.{lent_before, with_boundaries, with_cells};
+ghost use Rattle.sheet.specs.Views.{contents, SameRoom};
 ghost use Rattle.changes.specs.Changes.{DefaultSet, BoundarySet, TagsReset};
 
 use sentence::{NO_BLANK_ROOM, NO_ROOM, NO_SHEET, Refusal};
-use sheet::{Answer, Record};
+use sheet::{Buffers, ONE_BLANK, Record, Sheet};
 
 pub mod unchecked;
 
@@ -18,38 +19,31 @@ fn blank_fits(text: usize, types: usize, char_pos: usize, byte_pos: usize) -> bo
 }
 
 // Lays the one-blank sentence down.
-pub fn set_default(
-    text: &mut [u8],
-    types: &mut [u8],
-    boundaries: &mut [u8],
-    char_pos: &mut [u16],
-    byte_pos: &mut [u16],
-    cell_starts: &mut [u16],
-    cell_lengths: &mut [u16],
-    tag_bytes: &mut [u8],
-) -> Answer
-    ensures { DefaultSet (lent_before text.old types.old boundaries.old char_pos.old byte_pos.old cell_starts.old cell_lengths.old tag_bytes.old) result
-        (lent_after text.new types.new boundaries.new char_pos.new byte_pos.new cell_starts.new cell_lengths.new tag_bytes.new) }
+#[tactic(auto, using(crate::proofs::Blank::blank_refused, crate::proofs::Blank::room_at))]
+pub fn set_default(buffers: &mut Buffers<'_>) -> Result<Record, Refusal>
+    ensures lays { DefaultSet (contents buffers.old) result (contents buffers.new) }
+    ensures same_room { SameRoom buffers.old buffers.new }
 {
-    if !blank_fits(text.len(), types.len(), char_pos.len(), byte_pos.len()) {
-        return Answer::Refused(NO_BLANK_ROOM);
+    if !blank_fits(
+        buffers.text.len(),
+        buffers.types.len(),
+        buffers.char_pos.len(),
+        buffers.byte_pos.len(),
+    ) {
+        return Err(NO_BLANK_ROOM);
     }
-    text[0] = b' ';
-    types[0] = 6;
-    char_pos[0] = 0;
-    char_pos[1] = 1;
-    byte_pos[0] = 0;
-    byte_pos[1] = 1;
-    Answer::Sentence(Record {
-        n: 1,
-        b: 1,
-        columns: 0,
-        cells: 0,
-        g: 0,
-    })
+    buffers.text[0] = b' ';
+    // The number of `CharacterType::Other`, as the buffers hold it; nothing else of that crate is needed here.
+    buffers.types[0] = 6;
+    buffers.char_pos[0] = 0;
+    buffers.char_pos[1] = 1;
+    buffers.byte_pos[0] = 0;
+    buffers.byte_pos[1] = 1;
+    Ok(ONE_BLANK)
 }
 
 // Sets boundary i to a value: 0 none, 1 word, 2 unknown.
+// The buffers come one by one, since the others may be lent to be read alone.
 pub fn set_boundary(
     r: Record,
     text: &[u8],
@@ -62,14 +56,12 @@ pub fn set_boundary(
     tag_bytes: &[u8],
     i: usize,
     value: u8,
-) -> Answer
-    ensures { BoundarySet r (lent_before text.now types.now boundaries.old char_pos.now byte_pos.now cell_starts.now cell_lengths.now tag_bytes.now) i
-        value result
-        (with_boundaries boundaries.new
-        (lent_before text.now types.now boundaries.old char_pos.now byte_pos.now cell_starts.now cell_lengths.now tag_bytes.now)) }
+) -> Result<Record, Refusal>
+    ensures { let d = lent_before text.now types.now boundaries.old char_pos.now byte_pos.now cell_starts.now cell_lengths.now tag_bytes.now in
+        BoundarySet r d i value result (with_boundaries boundaries.new d) }
 {
-    if !sheet::check(
-        r,
+    let sheet = Sheet {
+        record: r,
         text,
         types,
         boundaries,
@@ -78,11 +70,12 @@ pub fn set_boundary(
         cell_starts,
         cell_lengths,
         tag_bytes,
-    ) {
-        return Answer::Refused(NO_SHEET);
+    };
+    if !sheet.check() {
+        return Err(NO_SHEET);
     }
     if (i >= r.n - 1) | (value > 2) {
-        return Answer::Refused(Refusal::outside(i));
+        return Err(Refusal::outside(i));
     }
     unchecked::set_boundary(
         r,
@@ -100,6 +93,7 @@ pub fn set_boundary(
 }
 
 // Makes all tags absent, and the columns c.
+// The buffers come one by one, since the others may be lent to be read alone.
 pub fn reset_tags(
     r: Record,
     text: &[u8],
@@ -111,14 +105,12 @@ pub fn reset_tags(
     cell_lengths: &mut [u16],
     tag_bytes: &[u8],
     c: usize,
-) -> Answer
-    ensures { TagsReset r (lent_before text.now types.now boundaries.now char_pos.now byte_pos.now cell_starts.old cell_lengths.old tag_bytes.now) c result
-        (with_cells
-        cell_starts.new cell_lengths.new
-        (lent_before text.now types.now boundaries.now char_pos.now byte_pos.now cell_starts.old cell_lengths.old tag_bytes.now)) }
+) -> Result<Record, Refusal>
+    ensures { let d = lent_before text.now types.now boundaries.now char_pos.now byte_pos.now cell_starts.old cell_lengths.old tag_bytes.now in
+        TagsReset r d c result (with_cells cell_starts.new cell_lengths.new d) }
 {
-    if !sheet::check(
-        r,
+    let sheet = Sheet {
+        record: r,
         text,
         types,
         boundaries,
@@ -127,15 +119,16 @@ pub fn reset_tags(
         cell_starts,
         cell_lengths,
         tag_bytes,
-    ) {
-        return Answer::Refused(NO_SHEET);
+    };
+    if !sheet.check() {
+        return Err(NO_SHEET);
     }
     if c > 4096 {
-        return Answer::Refused(Refusal::outside(c));
+        return Err(Refusal::outside(c));
     }
     let cells = r.n * c;
     if (cells > cell_starts.len()) | (cells > cell_lengths.len()) {
-        return Answer::Refused(NO_ROOM);
+        return Err(NO_ROOM);
     }
     unchecked::reset_tags(
         r,

@@ -1,4 +1,5 @@
 -- What the outcome of a conversion tells. Assumes nothing.
+use Rattle.std.specs.Prelude.{Ok, Err}
 use Prim.Native.Nat.{ℕ, ◌+◌, ◌≤◌}
 use native.Mathlib.Omega.{arith}
 use mathlib.Core.Path.{◌≡◌, refl, sym, ◌∙◌}
@@ -15,11 +16,10 @@ use Rattle.sentence.specs.Reading.{Result, sentence, refused, read}
 use Rattle.sentence.specs.Writing.{written}
 use Rattle.sentence.specs.Refusals.{verdict, host_order}
 use Rattle.convert_buffers.specs.Between.{Outcome, writes, refuses, overfull, between, answer_of, Converts}
-use Rattle.convert_buffers.specs.declared.Converted.{Converted}
-use Rattle.convert_buffers.specs.declared.Converted.TheVariants.{Wrote, Refused}
+use Rattle.sheet.specs.Answers.{Number}
 
 -- two outcomes of one call are equal
-pub converts_once : {A : Type 0} {tell : Converted → A} {o : Outcome} {at : ℕ} {out : List ℕ} {r r' : A} {e e' : List ℕ}
+pub converts_once : {A : Type 0} {tell : Number → A} {o : Outcome} {at : ℕ} {out : List ℕ} {r r' : A} {e e' : List ℕ}
     → Converts tell o at out r e → Converts tell o at out r' e' → (r ≡ r') × (e ≡ e')
 converts_once p q = (p.answer ∙ sym q.answer, p.output ∙ sym q.output)
 
@@ -42,12 +42,12 @@ module _ (room : ℕ) where
           (λ _. if_cases Fits (ltb room (length (written g s))) _ _ (λ _. tt) (λ e. ltb-false _ _ e))))
 
 -- what an answer says of the outcome
-pub was_written : (o : Outcome) (at : ℕ) {e : ℕ} → Wrote e ≡ answer_of at o → (w : List ℕ) × (o ≡ writes w) × (e ≡ at + length w)
+pub was_written : (o : Outcome) (at : ℕ) {e : ℕ} → Ok e ≡ answer_of at o → (w : List ℕ) × (o ≡ writes w) × (e ≡ at + length w)
 unfolding answer_of
 was_written (writes w) at h = (w, refl, cc)
 was_written (refuses r) at h = let z : ◌≡◌ {A = ℕ} 0 1 = cc in absurd (omega arith)
 
-pub was_refused : (o : Outcome) (at : ℕ) {r : Refusal} → Refused r ≡ answer_of at o → o ≡ refuses r
+pub was_refused : (o : Outcome) (at : ℕ) {r : Refusal} → Err r ≡ answer_of at o → o ≡ refuses r
 unfolding answer_of
 was_refused (writes w) at h = let z : ◌≡◌ {A = ℕ} 0 1 = cc in absurd (omega arith)
 was_refused (refuses q) at h = cc

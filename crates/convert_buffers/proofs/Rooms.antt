@@ -1,18 +1,18 @@
 -- Buffers as long as a line, with as many cells as its sentence, have room for it. Assumes nothing.
-use Prim.Native.Nat.{ℕ}
+use Rattle.std.specs.Prelude.{Ok}
+use Prim.Native.Nat.{ℕ, ◌≤◌, ◌<◌}
 use native.Mathlib.Omega.{arith}
 use mathlib.Core.Path.{◌≡◌, refl, ap}
 use mathlib.Core.Bool.{true}
 use mathlib.Core.List.{List}
-use lib.ListN.{length}
+use lib.ListN.{length, replicate, length-replicate}
 use Rattle.utf8.proofs.Codec.{size_long}
 use Rattle.sentence.specs.Sentence.{Sentence, text}
 use Rattle.sentence.specs.declared.Form.{Form}
 use Rattle.sentence.specs.Reading.{Result, sentence, refused, read}
 use Rattle.sentence.proofs.Shape.{read_formed, read_light}
-use Rattle.sheet.specs.Layout.{Buffers, Same, record_of, room_for, Holds, Sheet}
+use Rattle.sheet.specs.Layout.{Buffers, buffers, Same, record_of, room_for, Holds, Sheet}
 use Rattle.sheet.specs.declared.Record.{Record}
-use Rattle.sheet.specs.declared.Answer.TheVariants as answer
 use Rattle.sheet.proofs.Eights.{same_is}
 use Rattle.sheet.proofs.Exact.{room_has}
 use Rattle.sheet.proofs.Held.{laid_holds, spelled}
@@ -24,13 +24,32 @@ wide_room : (f : Form) (x : List ℕ) (s : Sentence) (d : Buffers) → read f x 
 unfolding record_of
 wide_room f x s d e w = room_has (record_of s) d (omega (arith, read_light f x s e, size_long (text s), w))
 
+-- zeros that are more than a line's bytes, and as many as its cells
+pub zeros_wide : (n m p q : ℕ) → n < p → m ≤ q
+    → Wide n m (buffers (replicate p 0) (replicate p 0) (replicate p 0) (replicate p 0) (replicate p 0) (replicate q 0) (replicate q 0) (replicate p 0))
+zeros_wide n m p q h k =
+    let a : ◌≡◌ {A = ℕ} (length (replicate {A = ℕ} p 0)) p = length-replicate p 0 in
+    let b : ◌≡◌ {A = ℕ} (length (replicate {A = ℕ} q 0)) q = length-replicate q 0 in
+    record {
+      wide = record {
+        text_is = omega arith;
+        types_is = omega arith;
+        boundaries_is = omega arith;
+        char_pos_is = omega arith;
+        byte_pos_is = omega arith;
+        cell_starts_is = omega arith;
+        cell_lengths_is = omega arith;
+        tag_bytes_is = omega arith;
+      };
+    }
+
 -- ---- the sentence of a line that was scanned
 pub record Found (x : Result) (r : Record) : Type 0 where
   pub value : Sentence
   pub was_read : x ≡ sentence value
   pub record_is : r ≡ record_of value
 
-pub found : (x : Result) {r : Record} → answer.Sentence r ≡ scanned x → Found x r
+pub found : (x : Result) {r : Record} → Ok r ≡ scanned x → Found x r
 unfolding scanned
 found (sentence s) e = record { value = s; was_read = refl; record_is = cc }
 found (refused n k) e = let z : ◌≡◌ {A = ℕ} 0 1 = cc in absurd (omega arith)

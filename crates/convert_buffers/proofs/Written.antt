@@ -1,5 +1,6 @@
 -- A sentence written where its line fits, and refused else. Assumes nothing.
-use Prim.Native.Nat.{ℕ, ◌≤◌, ◌<◌}
+use Rattle.std.specs.Prelude.{Option, Some, None, Ok, Err}
+use Prim.Native.Nat.{ℕ, ◌≤◌}
 use native.Mathlib.Nat.{zero-add}
 use mathlib.Core.Path.{◌≡◌, refl, sym, ap, ◌∙◌}
 use mathlib.Core.List.{List}
@@ -12,37 +13,25 @@ use Rattle.write_items.proofs.Room.{short_none, short_some}
 use Rattle.sentence.specs.declared.Refusal.{Refusal}
 use Rattle.sentence.specs.Sentence.{Sentence}
 use Rattle.sentence.specs.declared.Form.{Form}
-use Rattle.sentence.specs.declared.Form.TheVariants.{Raw as raw}
-use Rattle.sentence.specs.Reading.{Annotated}
 use Rattle.sentence.specs.Writing.{written}
 use Rattle.sentence.specs.Refusals.{refusal, verdict}
 use Rattle.convert_buffers.specs.Between.{answer_of, output_of, Converts}
 use Rattle.convert_buffers.specs.Through.{writing}
-use Rattle.convert_buffers.specs.declared.Converted.{Converted}
-use Rattle.convert_buffers.specs.declared.Converted.TheVariants.{Wrote, Refused}
+use Rattle.sheet.specs.Answers.{Number}
 
 -- n is the length that is lacking
-module _ (g : Form) (s : Sentence) (out : List ℕ) {n : ℕ} (e : n ≡ short_of (length out) (length (written g s))) where
-  pub writing_short : {q : Refusal} → q ≡ refusal 12 n → 0 < n → Converts (λ (c : Converted). c) (writing g (length out) s) 0 out (Refused q) out
+module _ (g : Form) (s : Sentence) (out : List ℕ) {n : Option ℕ} (e : n ≡ short_of (length out) (length (written g s))) where
+  pub writing_short : {k : ℕ} {q : Refusal} → n ≡ Some k → q ≡ refusal 12 k → Converts (λ (c : Number). c) (writing g (length out) s) 0 out (Err q) out
   unfolding writing verdict answer_of output_of
-  writing_short i h =
+  writing_short h i =
       let k = short_some (length out) (length (written g s)) e h in
-      rw (if_true _ _ _ (lt-ltb (length out) (length (written g s)) k.1)) (record { answer = ap Refused (i ∙ ap (refusal 12) k.0); output = refl })
+      rw (if_true _ _ _ (lt-ltb (length out) (length (written g s)) k.1)) (record { answer = ap Err (i ∙ ap (refusal 12) k.0); output = refl })
 
-  pub writing_room : n ≤ 0 → length (written g s) ≤ length out
+  pub writing_room : n ≡ None → length (written g s) ≤ length out
   writing_room h = short_none (length out) (length (written g s)) e h
 
-  pub writing_done : {end : List ℕ} {m : ℕ} → n ≤ 0 → Lined (written g s) out end m → Converts (λ (c : Converted). c) (writing g (length out) s) 0 out (Wrote m) end
+  pub writing_done : {end : List ℕ} {m : ℕ} → n ≡ None → Lined (written g s) out end m → Converts (λ (c : Number). c) (writing g (length out) s) 0 out (Ok m) end
   unfolding writing verdict answer_of output_of
   writing_done h l =
       rw (if_false _ _ _ (le-ltb (length out) (length (written g s)) (writing_room h)))
-      (record { answer = ap Wrote (l.length_is ∙ sym (zero-add _)); output = l.out_is })
-
--- ---- the form by its name; raw is none of the two
-module _ (writer : Form) (s : Sentence) {out end : List ℕ} {r : Converted} where
-  pub as_raw : Annotated writer → writer ≡ raw → Converts (λ (c : Converted). c) (writing writer (length out) s) 0 out r end
-  as_raw a e = absurd (rw e at a)
-
-  pub as_named : {g : Form} → writer ≡ g
-      → Converts (λ (c : Converted). c) (writing g (length out) s) 0 out r end → Converts (λ (c : Converted). c) (writing writer (length out) s) 0 out r end
-  as_named e p = rw e p
+      (record { answer = ap Ok (l.length_is ∙ sym (zero-add _)); output = l.out_is })

@@ -1,5 +1,5 @@
 -- A line laid into lent buffers that are long enough, and written from there.
-use Rattle.std.specs.Prelude.{ℕ, ◌+◌, ◌≤◌, ◌≡◌, [], ◌∷◌, ltb, length}
+use Rattle.std.specs.Prelude.{ℕ, ◌+◌, ◌≤◌, ◌≡◌, [], ◌∷◌, ltb, length, Ok}
 use Rattle.sentence.specs.Sentence.{Sentence}
 use Rattle.sentence.specs.declared.Form.{Form}
 use Rattle.sentence.specs.Reading.{Result}
@@ -8,13 +8,12 @@ use Rattle.sentence.specs.Refusals.{check, verdict}
 use Rattle.sheet.specs.Eight.{Eight, eight}
 use Rattle.sheet.specs.Layout.{Buffers, AtLeast}
 use Rattle.sheet.specs.declared.Record.{Record}
-use Rattle.sheet.specs.declared.Answer.TheVariants as answer
 use Rattle.read_scan.specs.Scan.{scanned}
 use Rattle.convert_buffers.specs.Between.{Outcome, writes, refuses}
 
 -- the record of the sentence that was read, whose cells the conversion holds
 pub record Scanned (x : Result) (r : Record) : Type 0 where
-  pub record_is : answer.Sentence r ≡ scanned x
+  pub record_is : Ok r ≡ scanned x
   pub few : r.cells ≤ 2048
 
 -- the most that a sentence of m cells takes that is read from a line of n bytes

@@ -1,4 +1,5 @@
 -- What any contract gives that is served wherever there is room, and what a reader lays down. Assumes nothing.
+use Rattle.std.specs.Prelude.{Ok}
 use Prim.Native.Nat.{ℕ, ◌≤◌}
 use mathlib.Core.Path.{◌≡◌, refl, sym, subst}
 use mathlib.Core.List.{List}
@@ -10,13 +11,12 @@ use Rattle.sentence.specs.Sentence.{Sentence}
 use Rattle.sentence.specs.declared.Form.{Form}
 use Rattle.sentence.specs.Reading.{sentence, read}
 use Rattle.sheet.specs.declared.Record.{Record}
-use Rattle.sheet.specs.declared.Number.TheVariants as number
 use Rattle.sheet.specs.Layout.{Buffers, Holds}
 use Rattle.read_load.proofs.Laws.{read_holds}
 use Rattle.demands.specs.Calls.{Contract, Gives, Laid}
 
 -- a call that is served wherever there is room puts its line at the front of some output
-pub given : (Does : Contract) {r : Record} {d : Buffers} (w : List ℕ) → ((out : List ℕ) → length w ≤ length out → Does r d out (number.Is (length w)) (over w out)) → Gives Does r d w
+pub given : (Does : Contract) {r : Record} {d : Buffers} (w : List ℕ) → ((out : List ℕ) → length w ≤ length out → Does r d out (Ok (length w)) (over w out)) → Gives Does r d w
 given Does w serves =
     let out : List ℕ = replicate (length w) 0 in
     record {

@@ -1,25 +1,25 @@
 -- Demand 1 holds of every public entry: from the contracts' definitions. Assumes nothing.
+use Rattle.std.specs.Prelude.{Ok, Err}
+use Rattle.std.specs.Prelude as prelude
 use Prim.Native.Nat.{ℕ, ◌+◌, ◌-◌, ◌≤◌, ◌<◌}
 use mathlib.Core.Path.{◌≡◌, refl, sym, ap, subst, ◌∙◌}
 use mathlib.Core.Logic.{◌↔◌, ◌⊎◌, inl, inr}
-use mathlib.Core.Bool.{Bool, true, false, not, ◌&&◌, ◌||◌, false≢true}
+use mathlib.Core.Bool.{Bool, true, false, not, ◌||◌, false≢true}
 use mathlib.Core.List.{List, [], ◌∷◌, ◌++◌, map}
 use native.Mathlib.Decide.{dec_lt}
 use native.Mathlib.Omega.{arith}
-use borrow.Author.Tests.{eq-eqb, eqb-true, le-leb, lt-ltb, leb-true, ltb-false}
-use lib.Dec.{eqb, leb, ltb}
+use borrow.Author.Tests.{eq-eqb, eqb-true, le-leb, lt-ltb, ltb-false}
+use lib.Dec.{eqb, ltb}
 use lib.IntN.{ℤ}
 use lib.ListN.{length, drop, get_or, length-take, length-drop}
 use lib.Seq.{drop_at, drop-drop, get_or-drop}
 use Rattle.laws.specs.If.{when◌then◌else◌, if_cases, if_true}
 use Rattle.laws.specs.Put.{over as put}
-use Rattle.laws.proofs.Facts.{reads, or_is, both}
+use Rattle.laws.proofs.Facts.{reads, or_is}
 use Rattle.utf8.specs.declared.Decoded.{Decoded}
 use Rattle.utf8.specs.declared.Decoded.TheVariants as decoded
 use Rattle.utf8.specs.Utf8.{scalars, valid_prefix, char_at, decode_at, scalar, width, encode, encodes, size}
 use Rattle.utf8.proofs.Codec.{valid_within, encode_decode, length_encode, length_encodes, encodes_scalars, width_small}
-use Rattle.types.specs.declared.ranges.Row.{Row}
-use Rattle.types.specs.TypeOf.{find, ranges, type_of}
 use Rattle.sentence.specs.declared.Refusal.{Refusal}
 use Rattle.sentence.specs.Sentence.{Mark, word, Sentence}
 use Rattle.sentence.specs.Reading.{Kind, mark, slash, back, plain, kind, Place, start, behind, in_tag, gap, State, at, escaped, Act, skip, letter, opens, of_tag, Step, go, stop, ordinary, inside, opening, step, advance, Run, whole, stopped, unfinished, ending, finish, push, follow, run, over, next, Parsed, parsed, add, gather, Result, sentence, refused, built, placed, read}
@@ -27,14 +27,12 @@ use Rattle.sentence.specs.declared.Form.{Form}
 use Rattle.sentence.specs.declared.Form.TheVariants.{Raw as raw, Tokenized as tokenized, Partial as partial}
 use Rattle.sentence.specs.Forms.{form_of, no_reader}
 use Rattle.sentence.specs.Writing.{written, blank}
-use Rattle.sentence.specs.Refusals.{refusal, Check, check, verdict, sheet_order, reader_order, update_order, host_order}
+use Rattle.types.proofs.Laws.{has_code}
+use Rattle.sentence.specs.Refusals.{reason_of, reason_number, refusal, Check, check, verdict, sheet_order, reader_order, update_order, host_order}
 use Rattle.sheet.specs.declared.Record.{Record}
-use Rattle.sheet.specs.declared.Answer.{Answer}
-use Rattle.sheet.specs.declared.Answer.TheVariants as answer
-use Rattle.sheet.specs.declared.Number.{Number}
-use Rattle.sheet.specs.declared.Number.TheVariants as number
-use Rattle.sheet.specs.declared.Slice.{Slice}
-use Rattle.sheet.specs.declared.Slice.TheVariants as slice
+use Rattle.sheet.specs.Answers.{Answer}
+use Rattle.sheet.specs.Answers.{Number}
+use Rattle.sheet.specs.Answers.{Slice}
 use Rattle.sheet.specs.Layout.{Buffers, record_of, room_for, laid, spell}
 use Rattle.sheet.specs.Check.{is_sheet}
 use Rattle.sheet.proofs.Exact.{is_sheet_lem, holds_is}
@@ -45,19 +43,18 @@ use Rattle.scores.specs.Scores.{score_answer, Predicted}
 use Rattle.read_load.specs.Load.{lacks, read_answer, read_leaves, ReadDoes}
 use Rattle.read.specs.Read.{update_answer, update_leaves, UpdateDoes}
 use Rattle.sheet.proofs.Eights.{same_is}
-use Rattle.tokens.specs.declared.Next.{Next}
-use Rattle.tokens.specs.declared.Next.TheVariants as step-answer
+use Rattle.tokens.specs.Steps.{Next}
 use Rattle.tokens.specs.declared.Token.{Token}
 use Rattle.tokens.specs.Steps.{span_of, tokens_of, next_of, list_order, count_of, Listed}
 use Rattle.write.specs.Answers.{Puts, line_order, line_of}
-use Rattle.convert_buffers.specs.declared.Converted.{Converted}
+use Rattle.sheet.specs.Answers.{Number}
 use Rattle.convert_buffers.specs.Between.{Outcome, writes, between, overfull, answer_of, output_of, Converts}
 use Rattle.convert_buffers.specs.Between.{refuses as no_line}
 use Rattle.convert.specs.Convert.{unknown_forms, out_of_range, conversion}
 use Rattle.exports.specs.Exports.{code_of, read_first, read_code, read_numbers, host_answer, host_leaves, HostReads, host_write_order, number_code, HostWrites, nearest, spanned, step_code, step_span, HostSteps}
 use Rattle.respelling.proofs.Runs.{finished}
 use Rattle.respelling.proofs.Whole.{only_whole}
-use Rattle.demands.specs.Demand1.{Said, serves, refuses, of_answer, of_number, of_slice, of_next, of_converted, Allowed, exactly, allows, one_of, Answers, Settled, Blanked, form_refusals, line_refusals, read_refusals, update_refusals, ask_refusals, reset_refusals, fill_refusals, copy_refusals, pass_refusals, convert_refusals, Stands, Demand1}
+use Rattle.demands.specs.Demand1.{Said, serves, refuses, said, Allowed, exactly, allows, one_of, Answers, Settled, Blanked, form_refusals, line_refusals, read_refusals, update_refusals, ask_refusals, reset_refusals, fill_refusals, copy_refusals, pass_refusals, convert_refusals, Stands, Demand1}
 
 -- ---- one of the refusals
 eqb_self : (n : ℕ) → eqb n n ≡ true
@@ -76,18 +73,18 @@ abbrev Each : List Allowed → List Check → Type 0
 Each qs [] = Unit {0}
 Each qs (check b n p ∷ cs) = (b ≡ true → one_of qs (refusal n p) ≡ true) × Each qs cs
 
-module _ {A : Type 0} (say : A → Said) (refuse : Refusal → A) (tells : (x : Refusal) → say (refuse x) ≡ refuses x) (qs : List Allowed) where
-  answers : (cs : List Check) (served : A) → say served ≡ serves → Each qs cs → Answers qs (say (verdict refuse cs served))
-  unfolding verdict when◌then◌else◌
+module _ {A : Type 0} (qs : List Allowed) where
+  answers : (cs : List Check) (served : prelude.Result A Refusal) → said served ≡ serves → Each qs cs → Answers qs (said (verdict Err cs served))
+  unfolding verdict said when◌then◌else◌
   answers [] served s h = rw s tt
-  answers (check true n p ∷ cs) served s h = rw (tells (refusal n p)) (h.0 refl)
+  answers (check true n p ∷ cs) served s h = h.0 refl
   answers (check false n p ∷ cs) served s h = answers cs served s h.1
 
-  settles : {M : Type 0} (cs : List Check) (served : A) (d new : M) → say served ≡ serves → Each qs cs
-      → Settled qs (say (verdict refuse cs served)) d (verdict (λ x. d) cs new)
-  unfolding verdict when◌then◌else◌
+  settles : {M : Type 0} (cs : List Check) (served : prelude.Result A Refusal) (d new : M) → said served ≡ serves → Each qs cs
+      → Settled qs (said (verdict Err cs served)) d (verdict (λ x. d) cs new)
+  unfolding verdict said when◌then◌else◌
   settles [] served d new s h = rw s tt
-  settles (check true n p ∷ cs) served d new s h = rw (tells (refusal n p)) (h.0 refl, refl)
+  settles (check true n p ∷ cs) served d new s h = (h.0 refl, refl)
   settles (check false n p ∷ cs) served d new s h = settles cs served d new s h.1
 
 -- the checks of a call on a sheet
@@ -108,46 +105,22 @@ unfolding one_of allows
 sheet_13 bad p = (λ e. refl, (λ e. absurd (false≢true e), (λ e. absurd (false≢true e), tt)))
 
 -- ---- what each kind of answer says
-tells_answer : (x : Refusal) → of_answer (answer.Refused x) ≡ refuses x
-unfolding of_answer
-tells_answer x = refl
+serves_said : {A : Type 0} (a : A) → said (Ok a) ≡ serves
+unfolding said
+serves_said a = refl
 
-tells_number : (x : Refusal) → of_number (number.Refused x) ≡ refuses x
-unfolding of_number
-tells_number x = refl
-
-tells_slice : (x : Refusal) → of_slice (slice.Refused x) ≡ refuses x
-unfolding of_slice
-tells_slice x = refl
-
-tells_next : (x : Refusal) → of_next (step-answer.Refused x) ≡ refuses x
-unfolding of_next
-tells_next x = refl
-
-serves_answer : (r : Record) → of_answer (answer.Sentence r) ≡ serves
-unfolding of_answer
-serves_answer r = refl
-
-serves_number : (n : ℕ) → of_number (number.Is n) ≡ serves
-unfolding of_number
-serves_number n = refl
-
-serves_bytes : (b e : ℕ) → of_slice (slice.Bytes b e) ≡ serves
-unfolding of_slice
-serves_bytes b e = refl
-
-serves_tag : (b : ℕ) (t : List ℕ) → of_slice (tag_slice b t) ≡ serves
-unfolding of_slice tag_slice
+serves_tag : (b : ℕ) (t : List ℕ) → said (tag_slice b t) ≡ serves
+unfolding said tag_slice
 serves_tag b [] = refl
 serves_tag b (c ∷ t) = refl
 
 -- ---- calls that lay a sentence down: a refusal leaves the buffers
 lays : {s : Sentence} {d e : Buffers} (qs : List Allowed) (cs : List Check) (q : Record) (r : Answer) → Each qs cs
-    → Lays (verdict answer.Refused cs (answer.Sentence q)) s d r e → Settled qs (of_answer r) d e
-unfolding of_answer
-lays qs cs q (answer.Sentence z) h w = tt
-lays qs cs q (answer.Refused x) h w =
-    (subst (λ (a : Answer). Answers qs (of_answer a)) (sym w.answer_is) (answers of_answer answer.Refused tells_answer qs cs (answer.Sentence q) (serves_answer q) h), same_is w.leaves)
+    → Lays (verdict Err cs (Ok q)) s d r e → Settled qs (said r) d e
+unfolding said
+lays qs cs q (Ok z) h w = tt
+lays qs cs q (Err x) h w =
+    (subst (λ (a : Answer). Answers qs (said a)) (sym w.answer_is) (answers qs cs (Ok q) (serves_said q) h), same_is w.leaves)
 
 -- ---- what a line is refused by
 -- a number that is allowed where a character stands, of which one of a single byte is that byte
@@ -432,9 +405,9 @@ unfolding placed
 placed_told f x (whole l) h k = built_told (form_refusals f x) (gather l) k
 placed_told f x (stopped e left) h k = h
 
-one_told : (n p : ℕ) → Told (exactly n p ∷ []) (refused n p)
+one_told : (n p : ℕ) → reason_number (reason_of n) ≡ n → Told (exactly n p ∷ []) (refused n p)
 unfolding one_of allows
-one_told n p = rw (eqb_self n, eqb_self p)
+one_told n p e = rw (e, eqb_self n, eqb_self p)
 
 -- a refused line: a number of its form, at its place
 read_told : (f : Form) (x : List ℕ) → Told (line_refusals f x) (read f x)
@@ -444,7 +417,7 @@ read_told f x = long (ltb 4096 (length x))
     bad : (b : Bool) → ltb (valid_prefix x) (length x) ≡ b
         → Told (when b then exactly 2 (valid_prefix x) ∷ [] else form_refusals f x)
         (when b then refused 2 (valid_prefix x) else placed (length x) (run f (at start) (scalars x)))
-    bad true e = one_told 2 (valid_prefix x)
+    bad true e = one_told 2 (valid_prefix x) refl
     bad false e =
         let v : valid_prefix x ≡ length x = omega (arith, ltb-false (valid_prefix x) (length x) e, valid_within x) in
         let n : size (scalars x) ≡ length x = sym (length_encodes (scalars x)) ∙ ap length (encodes_scalars x v) in
@@ -455,19 +428,19 @@ read_told f x = long (ltb 4096 (length x))
     long : (b : Bool)
         → Told (when b then exactly 1 4096 ∷ [] else when ltb (valid_prefix x) (length x) then exactly 2 (valid_prefix x) ∷ [] else form_refusals f x)
         (when b then refused 1 4096 else when ltb (valid_prefix x) (length x) then refused 2 (valid_prefix x) else placed (length x) (run f (at start) (scalars x)))
-    long true = one_told 1 4096
+    long true = one_told 1 4096 refl
     long false = bad (ltb (valid_prefix x) (length x)) refl
 
 -- ---- the readers and the updates
 module _ (f : Form) (x : List ℕ) (d e : Buffers) (a : Answer) where
-  reader : ReadDoes (read f x) d a e → Settled (read_refusals f x) (of_answer a) d e
-  unfolding read_answer read_leaves reader_order of_answer one_of allows
-  reader w = subst (λ (r : Answer). Settled (read_refusals f x) (of_answer r) d e) (sym w.answer_is)
-      (subst (λ (b : Buffers). Settled (read_refusals f x) (of_answer (read_answer (read f x) d)) d b) (sym (same_is w.buffers_are)) (on (read f x) (read_told f x)))
+  reader : ReadDoes (read f x) d a e → Settled (read_refusals f x) (said a) d e
+  unfolding read_answer read_leaves reader_order said one_of allows
+  reader w = subst (λ (r : Answer). Settled (read_refusals f x) (said r) d e) (sym w.answer_is)
+      (subst (λ (b : Buffers). Settled (read_refusals f x) (said (read_answer (read f x) d)) d b) (sym (same_is w.buffers_are)) (on (read f x) (read_told f x)))
     where
-      on : (r : Result) → Told (line_refusals f x) r → Settled (read_refusals f x) (of_answer (read_answer r d)) d (read_leaves r d)
+      on : (r : Result) → Told (line_refusals f x) r → Settled (read_refusals f x) (said (read_answer r d)) d (read_leaves r d)
       on (refused n p) h = (more (exactly 11 0) (line_refusals f x) (refusal n p) h, refl)
-      on (sentence s) h = settles of_answer answer.Refused tells_answer (read_refusals f x) (check (lacks d s) 11 0 ∷ []) (answer.Sentence (record_of s)) d (laid s d) (serves_answer (record_of s)) (λ k. refl, tt)
+      on (sentence s) h = settles (read_refusals f x) (check (lacks d s) 11 0 ∷ []) (Ok (record_of s)) d (laid s d) (serves_said (record_of s)) (λ k. refl, tt)
 
 -- what an update answers and leaves, where there is no room for the one-blank sentence or where there is
 abbrev Left : Form → List ℕ → Buffers → Bool → Said → Buffers → Type 0
@@ -475,20 +448,20 @@ Left f x d b serves e = Unit {0}
 Left f x d b (refuses y) e = (one_of (update_refusals f x) y ≡ true) × (e ≡ (when b then d else laid blank d))
 
 left : (f : Form) (x : List ℕ) (d : Buffers) (b : Bool) (r : Result) → Told (line_refusals f x) r
-    → Left f x d b (of_answer (verdict answer.Refused (check b 15 0 ∷ []) (reader_order answer.Refused (lacks d) (λ (s : Sentence). answer.Sentence (record_of s)) r)))
+    → Left f x d b (said (verdict Err (check b 15 0 ∷ []) (reader_order Err (lacks d) (λ (s : Sentence). Ok (record_of s)) r)))
     (when b then d else reader_order (λ (y : Refusal). laid blank d) (lacks d) (λ (s : Sentence). laid s d) r)
-unfolding verdict reader_order when◌then◌else◌ of_answer one_of allows
+unfolding verdict reader_order when◌then◌else◌ said one_of allows
 left f x d true r h = (refl, refl)
 left f x d false (refused n p) h = (more (exactly 15 0) (read_refusals f x) (refusal n p) (more (exactly 11 0) (line_refusals f x) (refusal n p) h), refl)
 left f x d false (sentence s) h = on (lacks d s)
   where
-    on : (c : Bool) → Left f x d false (of_answer (when c then answer.Refused (refusal 11 0) else answer.Sentence (record_of s))) (when c then laid blank d else laid s d)
+    on : (c : Bool) → Left f x d false (said (when c then Err (refusal 11 0) else Ok (record_of s))) (when c then laid blank d else laid s d)
     on true = (refl, refl)
     on false = tt
 
-updates : (f : Form) (x : List ℕ) (d e : Buffers) (a : Answer) → UpdateDoes (read f x) d a e → Blanked (update_refusals f x) (of_answer a) d e
+updates : (f : Form) (x : List ℕ) (d e : Buffers) (a : Answer) → UpdateDoes (read f x) d a e → Blanked (update_refusals f x) (said a) d e
 unfolding update_answer update_leaves update_order
-updates f x d e a w = blanked (of_answer a) (rw (w.answer_is, same_is w.buffers_are) (left f x d (lacks d blank) (read f x) (read_told f x)))
+updates f x d e a w = blanked (said a) (rw (w.answer_is, same_is w.buffers_are) (left f x d (lacks d blank) (read f x) (read_told f x)))
   where
     blanked : (y : Said) → Left f x d (lacks d blank) y e → Blanked (update_refusals f x) y d e
     blanked serves h = tt
@@ -506,12 +479,12 @@ line_13_14_12 r d outside first w room = (λ e. refl, (λ e. rw (eqb_self first)
 
 -- a line that is put by checks which each refuse by one of these
 module _ (qs : List Allowed) {cs : List Check} {w out out' : List ℕ} (each : Each qs cs) where
-  puts : {a : Number} → Puts (λ n. n) cs w out a out' → Settled qs (of_number a) out out'
-  puts p = rw (p.answer_is, p.out_is) (settles of_number number.Refused tells_number qs cs (number.Is (length w)) out (put w out) (serves_number (length w)) each)
+  puts : {a : Number} → Puts (λ n. n) cs w out a out' → Settled qs (said a) out out'
+  puts p = rw (p.answer_is, p.out_is) (settles qs cs (Ok (length w)) out (put w out) (serves_said (length w)) each)
 
   -- and the same told as a number
-  host_puts : {a : ℕ} → Puts number_code cs w out a out' → (c : Number) × (a ≡ number_code c) × Settled qs (of_number c) out out'
-  host_puts p = (verdict number.Refused cs (number.Is (length w)), p.answer_is, puts (record { answer_is = refl; out_is = p.out_is }))
+  host_puts : {a : ℕ} → Puts number_code cs w out a out' → (c : Number) × (a ≡ number_code c) × Settled qs (said c) out out'
+  host_puts p = (verdict Err cs (Ok (length w)), p.answer_is, puts (record { answer_is = refl; out_is = p.out_is }))
 
 -- ---- the conversion
 module _ (reader writer : ℕ) (x out out' : List ℕ) (place : ℕ) where
@@ -549,16 +522,16 @@ module _ (reader writer : ℕ) (x out out' : List ℕ) (place : ℕ) where
   unfolding conversion between
   outcome = comes (unknown_forms reader writer) (out_of_range (length out) place) (read (form_of reader) x) (read_told (form_of reader) x)
 
-  settled : (o : Outcome) → Comes refusals o → Settled refusals (of_converted (answer_of place o)) out (output_of place o out)
-  unfolding answer_of output_of of_converted
+  settled : (o : Outcome) → Comes refusals o → Settled refusals (said (answer_of place o)) out (output_of place o out)
+  unfolding answer_of output_of said
   settled (writes w) h = tt
   settled (no_line y) h = (h, refl)
 
-  converts : (a : Converted) → Converts (λ (c : Converted). c) (conversion reader writer x (length out) place) place out a out' → Settled refusals (of_converted a) out out'
+  converts : (a : Number) → Converts (λ (c : Number). c) (conversion reader writer x (length out) place) place out a out' → Settled refusals (said a) out out'
   converts a w = rw (w.answer, w.output) (settled (conversion reader writer x (length out) place) outcome)
 
   converts_host : (a : ℕ) → Converts code_of (conversion reader writer x (length out) place) place out a out'
-      → (c : Converted) × (a ≡ code_of c) × Settled refusals (of_converted c) out out'
+      → (c : Number) × (a ≡ code_of c) × Settled refusals (said c) out out'
   converts_host a w =
       (answer_of place (conversion reader writer x (length out) place), w.answer, rw w.output (settled (conversion reader writer x (length out) place) outcome))
 
@@ -585,82 +558,60 @@ scalar_reads v = (
   λ h. elim h [ inl k ↦ simp or_is (inl (simp reads (omega arith))) | inr k ↦ simp or_is (inr (simp reads (omega arith))) ],
 )
 
--- each row has one of the six types
-unfoldable six : List Row → Bool
-six [] = true
-six (r ∷ rs) = leb 1 r.2 && leb r.2 6 && six rs
-
-all_six : six ranges ≡ true
-unfolding six ranges
-all_six = refl
-
-found_six : (c : ℕ) (rs : List Row) → six rs ≡ true → (1 ≤ find rs c) × (find rs c ≤ 6)
-unfolding find six
-found_six c [] h = (omega arith, omega arith)
-found_six c (r ∷ rs) h =
-    let k = both (leb 1 r.2 && leb r.2 6) (six rs) h in
-    let l = both (leb 1 r.2) (leb r.2 6) k.0 in
-    if_cases (λ (t : ℕ). (1 ≤ t) × (t ≤ 6)) (leb r.0 c && leb c r.1) _ _
-    (λ e. (leb-true 1 r.2 l.0, leb-true r.2 6 l.1)) (λ e. found_six c rs k.1)
-
-type_small : (c : ℕ) → (1 ≤ type_of c) × (type_of c ≤ 6)
-unfolding type_of
-type_small c = found_six c ranges all_six
-
 -- ---- look-ups: of whether there is a sheet, of whether a number is out of range, and of what is served
-asked_number : (bad out : Bool) (i n : ℕ) → Answers (ask_refusals i) (of_number (verdict number.Refused (sheet_order bad out i false 0) (number.Is n)))
+asked_number : (bad out : Bool) (i n : ℕ) → Answers (ask_refusals i) (said (verdict Err (sheet_order bad out i false 0) (Ok n)))
 asked_number bad out i n =
-    answers of_number number.Refused tells_number (ask_refusals i) (sheet_order bad out i false 0) (number.Is n) (serves_number n) (sheet_13_14 bad out i)
+    answers (ask_refusals i) (sheet_order bad out i false 0) (Ok n) (serves_said n) (sheet_13_14 bad out i)
 
-asked_slice : (bad out : Bool) (i : ℕ) (p : Slice) → of_slice p ≡ serves → Answers (ask_refusals i) (of_slice (verdict slice.Refused (sheet_order bad out i false 0) p))
+asked_slice : (bad out : Bool) (i : ℕ) (p : Slice) → said p ≡ serves → Answers (ask_refusals i) (said (verdict Err (sheet_order bad out i false 0) p))
 asked_slice bad out i p h =
-    answers of_slice slice.Refused tells_slice (ask_refusals i) (sheet_order bad out i false 0) p h (sheet_13_14 bad out i)
+    answers (ask_refusals i) (sheet_order bad out i false 0) p h (sheet_13_14 bad out i)
 
-char_pos : (good : Bool) (s : Sentence) (i : ℕ) → Answers (ask_refusals i) (of_number (char_to_str_pos_of good s i))
+char_pos : (good : Bool) (s : Sentence) (i : ℕ) → Answers (ask_refusals i) (said (char_to_str_pos_of good s i))
 unfolding char_to_str_pos_of
 char_pos good s i = asked_number (not good) _ i _
 
-byte_pos : (good : Bool) (s : Sentence) (p : ℕ) → Answers (ask_refusals p) (of_number (str_to_char_pos_of good s p))
+byte_pos : (good : Bool) (s : Sentence) (p : ℕ) → Answers (ask_refusals p) (said (str_to_char_pos_of good s p))
 unfolding str_to_char_pos_of
 byte_pos good s p = asked_number (not good) _ p _
 
-mark_at : (good : Bool) (s : Sentence) (i : ℕ) → Answers (ask_refusals i) (of_number (boundary_at good s i))
+mark_at : (good : Bool) (s : Sentence) (i : ℕ) → Answers (ask_refusals i) (said (boundary_at good s i))
 unfolding boundary_at
 mark_at good s i = asked_number (not good) _ i _
 
-cell_at : (good : Bool) (s : Sentence) (i j : ℕ) → Answers (ask_refusals i) (of_slice (tag_at good s i j))
+cell_at : (good : Bool) (s : Sentence) (i j : ℕ) → Answers (ask_refusals i) (said (tag_at good s i j))
 unfolding tag_at
 cell_at good s i j = asked_slice (not good) _ i _ (serves_tag _ _)
 
-text_at_lem : (good : Bool) (s : Sentence) (b e : ℕ) → Answers (ask_refusals b) (of_slice (surface_at good s b e))
+text_at_lem : (good : Bool) (s : Sentence) (b e : ℕ) → Answers (ask_refusals b) (said (surface_at good s b e))
 unfolding surface_at
-text_at_lem good s b e = asked_slice (not good) _ b _ (serves_bytes _ _)
+text_at_lem good s b e = asked_slice (not good) _ b _ (serves_said _)
 
-stepped : (r : Record) (d : Buffers) (p : ℕ) → Answers (exactly 13 0 ∷ []) (of_next (next_of r d p))
-unfolding next_of of_next
-stepped r d p = answers of_next step-answer.Refused tells_next (exactly 13 0 ∷ []) (sheet_order (not (is_sheet r d)) false p false 0) _ refl (sheet_13 (not (is_sheet r d)) p)
+stepped : (r : Record) (d : Buffers) (p : ℕ) → Answers (exactly 13 0 ∷ []) (said (next_of r d p))
+unfolding next_of said
+stepped r d p = answers (exactly 13 0 ∷ []) (sheet_order (not (is_sheet r d)) false p false 0) _ refl (sheet_13 (not (is_sheet r d)) p)
 
 -- ---- the token list, and the changes
-lists : (r : Record) (d : Buffers) (l l' : List Token) (a : Number) → Listed r d l a l' → Settled (fill_refusals (length (tokens_of r d))) (of_number a) l l'
+lists : (r : Record) (d : Buffers) (l l' : List Token) (a : Number) → Listed r d l a l' → Settled (fill_refusals (length (tokens_of r d))) (said a) l l'
 unfolding count_of list_order
 lists r d l l' a w =
     rw (w.answer_is, w.list_is)
-    (settles of_number number.Refused tells_number (fill_refusals (length (tokens_of r d))) (list_order r d (length l)) (number.Is (length (tokens_of r d))) l (put (map span_of (tokens_of r d)) l) (serves_number (length (tokens_of r d)))
+    (settles (fill_refusals (length (tokens_of r d))) (list_order r d (length l)) (Ok (length (tokens_of r d))) l (put (map span_of (tokens_of r d)) l) (serves_said (length (tokens_of r d)))
     (sheet_13_12 (not (is_sheet r d)) (ltb (length l) (length (tokens_of r d))) 0 (length (tokens_of r d))))
 
-default : (d e : Buffers) (a : Answer) → DefaultSet d a e → Settled (exactly 15 0 ∷ []) (of_answer a) d e
+default : (d e : Buffers) (a : Answer) → DefaultSet d a e → Settled (exactly 15 0 ∷ []) (said a) d e
 unfolding default_answer one_of allows
 default d e a w = lays (exactly 15 0 ∷ []) (check (not (room_for (record_of blank) d)) 15 0 ∷ []) (record_of blank) a (λ h. refl, tt) w
 
-marks_set : (r : Record) (d e : Buffers) (i v : ℕ) (a : Answer) → BoundarySet r d i v a e → Settled (ask_refusals i) (of_answer a) d e
+marks_set : (r : Record) (d e : Buffers) (i v : ℕ) (a : Answer) → BoundarySet r d i v a e → Settled (ask_refusals i) (said a) d e
 unfolding boundary_answer
 marks_set r d e i v a w = lays (ask_refusals i) _ _ a (sheet_13_14 (not (is_sheet r d)) _ i) w
 
-tags_reset : (r : Record) (d e : Buffers) (c : ℕ) (a : Answer) → TagsReset r d c a e → Settled (reset_refusals c) (of_answer a) d e
+tags_reset : (r : Record) (d e : Buffers) (c : ℕ) (a : Answer) → TagsReset r d c a e → Settled (reset_refusals c) (said a) d e
 unfolding reset_answer
 tags_reset r d e c a w = lays (reset_refusals c) _ _ a (sheet_13_14_11 (not (is_sheet r d)) _ _ c) w
 
-decided : (r : Record) (d e : Buffers) (zs : List ℤ) (a : Answer) → Predicted r d zs a e → Settled (ask_refusals (length zs)) (of_answer a) d e
+decided : (r : Record) (d e : Buffers) (zs : List ℤ) (a : Answer) → Predicted r d zs a e → Settled (ask_refusals (length zs)) (said a) d e
 unfolding score_answer
 decided r d e zs a w = lays (ask_refusals (length zs)) _ _ a (sheet_13_14 (not (is_sheet r d)) _ (length zs)) w
 
@@ -671,11 +622,11 @@ module _ (f : ℕ) (x : List ℕ) (d : Buffers) (ns : List ℕ) where
 
   -- by whether the form is unknown, whether the numbers are too few, and what the line reads to
   abbrev answered : Bool → Bool → Result → Answer
-  answered b c r = verdict answer.Refused (check b 16 0 ∷ check c 14 0 ∷ []) (read_answer r d)
+  answered b c r = verdict Err (check b 16 0 ∷ check c 14 0 ∷ []) (read_answer r d)
 
   told : (b c : Bool) (r : Result) → Told (line_refusals (form_of f) x) r
-      → Settled {M = Buffers × List ℕ} host_read_refusals (of_answer (answered b c r)) (d, ns) (verdict (λ (q : Refusal). d) (check b 16 0 ∷ check c 14 0 ∷ []) (read_leaves r d), read_numbers (answered b c r) ns)
-  unfolding verdict read_answer read_leaves reader_order read_numbers when◌then◌else◌ of_answer one_of allows
+      → Settled {M = Buffers × List ℕ} host_read_refusals (said (answered b c r)) (d, ns) (verdict (λ (q : Refusal). d) (check b 16 0 ∷ check c 14 0 ∷ []) (read_leaves r d), read_numbers (answered b c r) ns)
+  unfolding verdict read_answer read_leaves reader_order read_numbers when◌then◌else◌ said one_of allows
   told true c r h = (refl, refl)
   told false true r h = (refl, refl)
   told false false (refused n p) h = (
@@ -685,38 +636,38 @@ module _ (f : ℕ) (x : List ℕ) (d : Buffers) (ns : List ℕ) where
   )
   told false false (sentence s) h = on (lacks d s)
     where
-      on : (b : Bool) → Settled {M = Buffers × List ℕ} host_read_refusals (of_answer (when b then answer.Refused (refusal 11 0) else answer.Sentence (record_of s))) (d, ns)
-          (when b then d else laid s d, read_numbers (when b then answer.Refused (refusal 11 0) else answer.Sentence (record_of s)) ns)
+      on : (b : Bool) → Settled {M = Buffers × List ℕ} host_read_refusals (said (when b then Err (refusal 11 0) else Ok (record_of s))) (d, ns)
+          (when b then d else laid s d, read_numbers (when b then Err (refusal 11 0) else Ok (record_of s)) ns)
       on true = (refl, refl)
       on false = tt
 
   host_reads : (e : Buffers) (ns' : List ℕ) (a : ℕ) → HostReads f x d ns a e ns'
-      → (c : Answer) × (a ≡ read_code c) × Settled {M = Buffers × List ℕ} host_read_refusals (of_answer c) (d, ns) (e, ns')
+      → (c : Answer) × (a ≡ read_code c) × Settled {M = Buffers × List ℕ} host_read_refusals (said c) (d, ns) (e, ns')
   unfolding host_answer host_leaves read_first
   host_reads e ns' a w =
       (host_answer f x d (length ns), w.answer_is, rw (same_is w.buffers_are, w.numbers_are) (told (no_reader f) (ltb (length ns) 5) (read (form_of f) x) (read_told (form_of f) x)))
 
 host_writes : (f : ℕ) (r : Record) (d : Buffers) (out out' : List ℕ) (a : ℕ) → HostWrites f r d out a out'
-    → (c : Number) × (a ≡ number_code c) × Settled (exactly 16 0 ∷ fill_refusals (length (line_of (form_of f) r d))) (of_number c) out out'
+    → (c : Number) × (a ≡ number_code c) × Settled (exactly 16 0 ∷ fill_refusals (length (line_of (form_of f) r d))) (said c) out out'
 unfolding host_write_order line_order one_of allows
 host_writes f r d out out' a w =
     let n = length (line_of (form_of f) r d) in
     host_puts (exactly 16 0 ∷ fill_refusals n) (λ e. refl, (λ e. refl, (λ e. absurd (false≢true e), (λ e. rw (eqb_self n), tt)))) w
 
 -- a step, told in a span with so much room
-spans : (s : Next) (span : List ℕ) (b : Bool) → ltb (length span) 2 ≡ b → Answers (exactly 13 0 ∷ []) (of_next s)
-    → Settled (exactly 13 0 ∷ exactly 14 0 ∷ []) (of_next (spanned (length span) s)) span (step_span (spanned (length span) s) span)
-unfolding spanned step_span verdict when◌then◌else◌ of_next one_of allows
-spans (step-answer.Is s) span true e h = rw e (refl, refl)
-spans (step-answer.Is s) span false e h = rw e tt
-spans (step-answer.Refused q) span b e h = (first (allows (exactly 13 0) q) _ h, refl)
+spans : (s : Next) (span : List ℕ) (b : Bool) → ltb (length span) 2 ≡ b → Answers (exactly 13 0 ∷ []) (said s)
+    → Settled (exactly 13 0 ∷ exactly 14 0 ∷ []) (said (spanned (length span) s)) span (step_span (spanned (length span) s) span)
+unfolding spanned step_span verdict when◌then◌else◌ said one_of allows
+spans (Ok s) span true e h = rw e (refl, refl)
+spans (Ok s) span false e h = rw e tt
+spans (Err q) span b e h = (first (allows (exactly 13 0) q) _ h, refl)
   where
     first : (a b : Bool) → (a || false) ≡ true → (a || b) ≡ true
     first true b k = refl
     first false b k = absurd (false≢true k)
 
 host_steps : (r : Record) (d : Buffers) (p : ℕ) (span span' : List ℕ) (a : ℕ) → HostSteps r d p span a span'
-    → (c : Next) × (a ≡ step_code c) × Settled (exactly 13 0 ∷ exactly 14 0 ∷ []) (of_next c) span span'
+    → (c : Next) × (a ≡ step_code c) × Settled (exactly 13 0 ∷ exactly 14 0 ∷ []) (said c) span span'
 host_steps r d p span span' a w =
     (spanned (length span) (next_of r d p), w.answer_is, rw w.span_is (spans (next_of r d p) span (ltb (length span) 2) refl (stepped r d p)))
 
@@ -760,5 +711,5 @@ demand_1 = record {
   decode = λ s p a e. rw e (stands s p);
   valid_up_to = λ s a e. rw e (valid_within s);
   is_scalar = λ v a e. rw e (scalar_reads v);
-  get_type = λ c a e. rw e (type_small c);
+  get_type = λ c a e. rw e (has_code c);
 }

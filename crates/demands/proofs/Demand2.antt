@@ -1,4 +1,5 @@
 -- Demand 2 holds of the public functions: from their contracts and the laws of the definitions. Assumes nothing.
+use Rattle.std.specs.Prelude.{Ok, Err}
 use Prim.Native.Nat.{ℕ, ◌+◌, ◌-◌, ◌*◌, ◌/◌, ◌%◌, ◌≤◌, ◌<◌}
 use mathlib.Core.Path.{◌≡◌, refl, sym, subst, ◌∙◌}
 use mathlib.Core.Bool.{Bool, true, false}
@@ -19,15 +20,14 @@ use Rattle.sentence.specs.declared.Form.{Form}
 use Rattle.sentence.specs.Reading.{Annotated, Result, sentence, refused, read}
 use Rattle.sentence.specs.Writing.{tokens_from, next_token_of, surface, written, needed, blank}
 use Rattle.sentence.specs.declared.Refusal.{Refusal}
+use Rattle.demands.proofs.Numbers.{read_number}
 use Rattle.sentence.specs.Refusals.{refusal, verdict, reader_order, update_order}
 use Rattle.sentence.specs.Worked as examples
 use Rattle.sentence.proofs.Shape.{read_formed}
 use Rattle.sheet.specs.declared.Record.{Record}
-use Rattle.sheet.specs.declared.Answer.{Answer}
-use Rattle.sheet.specs.declared.Answer.TheVariants as answer
-use Rattle.sheet.specs.declared.Number.{Number}
-use Rattle.sheet.specs.declared.Number.TheVariants as number
-use Rattle.sheet.specs.declared.Slice.{Slice}
+use Rattle.sheet.specs.Answers.{Answer}
+use Rattle.sheet.specs.Answers.{Number}
+use Rattle.sheet.specs.Answers.{Slice}
 use Rattle.sheet.specs.Layout.{Buffers, record_of, room_for, lay, laid, Holds, spell}
 use Rattle.sheet.specs.Check.{is_sheet}
 use Rattle.sheet.proofs.Held.{laid_holds, spelled, holds_once}
@@ -41,8 +41,7 @@ use Rattle.read_load.specs.Load.{lacks, read_answer, read_leaves, ReadDoes}
 use Rattle.read.specs.Read.{update_answer, update_leaves, UpdateDoes}
 use Rattle.sheet.proofs.Eights.{same_self, same_is}
 use Rattle.tokens.specs.declared.Token.{Token}
-use Rattle.tokens.specs.declared.Next.{Next}
-use Rattle.tokens.specs.declared.Next.TheVariants as next
+use Rattle.tokens.specs.Steps.{Next}
 use Rattle.tokens.specs.Steps.{span_of, step_of, next_of, list_order, count_of, Listed}
 use Rattle.write.specs.Answers.{line_order, Written}
 use Rattle.write.proofs.Laws as write
@@ -55,7 +54,7 @@ unfolding laid lay
 lies s d = record { text_is = refl; types_are = refl; boundaries_are = refl; char_positions_are = refl; byte_positions_are = refl; cell_starts_are = refl; cell_lengths_are = refl; tag_bytes_are = refl }
 
 taken : (f : Form) (x : List ℕ) (s : Sentence) (d e : Buffers) (a : Answer) → read f x ≡ sentence s → room_for (record_of s) d ≡ true
-    → a ≡ answer.Sentence (record_of s) → e ≡ laid s d → Taken s d a e
+    → a ≡ Ok (record_of s) → e ≡ laid s d → Taken s d a e
 taken f x s d e a i h p q = rw (p, q) (record { answer_is = refl; lies = lies s d; holds = laid_holds s d (read_formed f x s i).0 h })
 
 reads : (f : Form) (x : List ℕ) (s : Sentence) (d e : Buffers) (a : Answer) → read f x ≡ sentence s → room_for (record_of s) d ≡ true → ReadDoes (read f x) d a e → Taken s d a e
@@ -67,35 +66,35 @@ updates : (f : Form) (x : List ℕ) (s : Sentence) (d e : Buffers) (a : Answer) 
 unfolding update_answer update_leaves update_order reader_order verdict lacks when◌then◌else◌
 updates f x s d e a i h k w = taken f x s d e a i h (w.answer_is ∙ rw (i, h, k)) (same_is w.buffers_are ∙ rw (i, h, k))
 
-serves : (d : Buffers) → room_for (record_of blank) d ≡ true → answer.Sentence (record_of blank) ≡ default_answer d
+serves : (d : Buffers) → room_for (record_of blank) d ≡ true → Ok (record_of blank) ≡ default_answer d
 unfolding default_answer verdict when◌then◌else◌
 serves d h = rw h
 
 -- the one-blank sentence, laid down where there is room for it
 blank_laid : (d : Buffers) → room_for (record_of blank) d ≡ true → Holds (record_of blank) (laid blank d) blank
-blank_laid d h = default_holds d (answer.Sentence (record_of blank)) (laid blank d) (record_of blank) (set h) refl
+blank_laid d h = default_holds d (Ok (record_of blank)) (laid blank d) (record_of blank) (set h) refl
   where
-    set : room_for (record_of blank) d ≡ true → DefaultSet d (answer.Sentence (record_of blank)) (laid blank d)
+    set : room_for (record_of blank) d ≡ true → DefaultSet d (Ok (record_of blank)) (laid blank d)
     set k = record { answer_is = serves d k; leaves = same_self (laid blank d) }
 
-blanks : (x : Result) (d e : Buffers) (y : Refusal) → room_for (record_of blank) d ≡ true → UpdateDoes x d (answer.Refused y) e → Lies blank d e × Holds (record_of blank) e blank
+blanks : (x : Result) (d e : Buffers) (y : Refusal) → room_for (record_of blank) d ≡ true → UpdateDoes x d (Err y) e → Lies blank d e × Holds (record_of blank) e blank
 unfolding update_answer update_leaves update_order reader_order verdict lacks when◌then◌else◌
 blanks x d e y h w = subst (λ (b : Buffers). Lies blank d b × Holds (record_of blank) b blank) (sym (same_is w.buffers_are ∙ on x w.answer_is)) (lies blank d, blank_laid d h)
   where
-    served : (s : Sentence) (b : Bool) → answer.Refused y ≡ (when b then answer.Refused (refusal 11 0) else answer.Sentence (record_of s)) → (when b then laid blank d else laid s d) ≡ laid blank d
+    served : (s : Sentence) (b : Bool) → Err y ≡ (when b then Err (refusal 11 0) else Ok (record_of s)) → (when b then laid blank d else laid s d) ≡ laid blank d
     served s true a = refl
     served s false a = absurd (let z : ◌≡◌ {A = ℕ} 0 1 = cc in omega arith)
 
-    on : (x : Result) → answer.Refused y ≡ update_answer x d → update_leaves x d ≡ laid blank d
+    on : (x : Result) → Err y ≡ update_answer x d → update_leaves x d ≡ laid blank d
     on (refused n p) a = rw h
     on (sentence s) a = rw h (served s (lacks d s) (rw h at a))
 
-refused_by : (f : Form) (x : List ℕ) (n p : ℕ) (d e : Buffers) (a : Answer) → read f x ≡ refused n p → ReadDoes (read f x) d a e → a ≡ answer.Refused (refusal n p)
+refused_by : (f : Form) (x : List ℕ) (n p : ℕ) (d e : Buffers) (a : Answer) → read f x ≡ refused n p → ReadDoes (read f x) d a e → a ≡ Err (refusal n p)
 unfolding read_answer reader_order
 refused_by f x n p d e a i w = w.answer_is ∙ rw i
 
 writes : (f : Form) (r : Record) (d : Buffers) (s : Sentence) (out out' : List ℕ) (a : Number) → Holds r d s → needed f s ≤ length out
-    → Written f r d out a out' → (a ≡ number.Is (needed f s)) × (out' ≡ over (written f s) out)
+    → Written f r d out a out' → (a ≡ Ok (needed f s)) × (out' ≡ over (written f s) out)
 writes f r d s out out' a h k w = let z = spelled r d s h in rw (← z) (write.puts_once w (write.serves r d false 0 (rw z h) refl (rw z k)))
 
 writes_any : (f : Form) → Annotated f → (r : Record) (d : Buffers) (out out' : List ℕ) (a : Number) → Written f r d out a out' → Writes f r d out a out'
@@ -110,12 +109,12 @@ writes_any f an r d out out' a w = on (is_sheet r d) refl
         long true l = says.too_short (spell r d) (is_sheet_lem r d e) (ltb-true _ _ l) (w.answer_is ∙ rw (e, l)) (w.out_is ∙ rw (e, l))
         long false l = says.its_line (spell r d) (is_sheet_lem r d e) (ltb-false _ _ l) (w.answer_is ∙ rw (e, l)) (w.out_is ∙ rw (e, l))
 
-steps : (r : Record) (d : Buffers) (s : Sentence) (p : ℕ) (a : Next) → Holds r d s → a ≡ next_of r d p → a ≡ next.Is (step_of (next_token_of (marks s) (count s) p))
+steps : (r : Record) (d : Buffers) (s : Sentence) (p : ℕ) (a : Next) → Holds r d s → a ≡ next_of r d p → a ≡ Ok (step_of (next_token_of (marks s) (count s) p))
 unfolding next_of verdict when◌then◌else◌
 steps r d s p a h e = e ∙ rw (holds_is r d s h, spelled r d s h)
 
 lists : (r : Record) (d : Buffers) (s : Sentence) (l l' : List Token) (a : Number) → Holds r d s → length (tokens_from (marks s) 0) ≤ length l
-    → Listed r d l a l' → (a ≡ number.Is (length (tokens_from (marks s) 0))) × (l' ≡ over (map span_of (tokens_from (marks s) 0)) l)
+    → Listed r d l a l' → (a ≡ Ok (length (tokens_from (marks s) 0))) × (l' ≡ over (map span_of (tokens_from (marks s) 0)) l)
 unfolding count_of list_order verdict when◌then◌else◌
 lists r d s l l' a h k w =
     let g = holds_is r d s h in
@@ -124,16 +123,16 @@ lists r d s l l' a h k w =
     (w.answer_is ∙ rw (g, z, n), w.list_is ∙ rw (g, z, n))
 
 char_to_byte : (r : Record) (d : Buffers) (s : Sentence) (i : ℕ) (a : Number) → Holds r d s → i ≤ count s
-    → a ≡ char_to_str_pos_of (is_sheet r d) (spell r d) i → a ≡ number.Is (start_at s i)
+    → a ≡ char_to_str_pos_of (is_sheet r d) (spell r d) i → a ≡ Ok (start_at s i)
 unfolding char_to_str_pos_of verdict when◌then◌else◌
 char_to_byte r d s i a h k e = e ∙ rw (holds_is r d s h, spelled r d s h, le-ltb (count s) i k)
 
 byte_to_char : (r : Record) (d : Buffers) (s : Sentence) (i : ℕ) (a : Number) → Holds r d s → i ≤ count s
-    → a ≡ str_to_char_pos_of (is_sheet r d) (spell r d) (start_at s i) → a ≡ number.Is i
+    → a ≡ str_to_char_pos_of (is_sheet r d) (spell r d) (start_at s i) → a ≡ Ok i
 byte_to_char r d s i a h k e = e ∙ rw (holds_is r d s h, spelled r d s h) (positions_back s i k)
 
 boundaries : (r : Record) (d : Buffers) (s : Sentence) (i : ℕ) (a : Number) → Holds r d s → i < count s - 1
-    → a ≡ boundary_at (is_sheet r d) (spell r d) i → a ≡ number.Is (code (get_or (marks s) i none))
+    → a ≡ boundary_at (is_sheet r d) (spell r d) i → a ≡ Ok (code (get_or (marks s) i none))
 unfolding boundary_at verdict when◌then◌else◌
 boundaries r d s i a h k e = e ∙ rw (holds_is r d s h, spelled r d s h, lt-leb (count s - 1) i k)
 
@@ -176,7 +175,7 @@ demand_2 = record {
   reads = reads;
   updates = updates;
   update_blanks = λ f x d e y h w. blanks (read f x) d e y h w;
-  refuses = refused_by;
+  refuses = λ f x n p d e a r w. (refused_by f x n p d e a r w, read_number f x n p r);
   holds_one = λ r d s t h k. holds_once h k;
   writes = writes;
   writes_any = writes_any;

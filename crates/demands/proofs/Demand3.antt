@@ -1,4 +1,5 @@
 -- Demand 3 holds of the public functions: from their contracts and the laws of the definitions. Assumes nothing.
+use Rattle.std.specs.Prelude.{Ok}
 use Prim.Native.Nat.{ℕ, ◌+◌, ◌-◌, ◌*◌, ◌≤◌, ◌<◌}
 use mathlib.Core.Path.{◌≡◌, refl, sym, ap, subst, ◌∙◌}
 use mathlib.Core.Logic.{◌↔◌, ◌⊎◌, inl, inr}
@@ -17,12 +18,11 @@ use Rattle.sentence.specs.declared.Form.TheVariants.{Tokenized as tokenized, Par
 use Rattle.sentence.specs.Forms.{form_of}
 use Rattle.sentence.specs.Reading.{Annotated, Result, sentence, refused, read}
 use Rattle.sentence.specs.Writing.{written, needed, set_boundary_of, reset_tags_of, scored}
-use Rattle.sentence.specs.Refusals.{verdict, reader_order, host_order}
+use Rattle.sentence.specs.Refusals.{refusal, verdict, reader_order, host_order}
 use Rattle.sentence.proofs.Shape.{read_formed}
 use Rattle.sentence.proofs.Demand3 as definitions
 use Rattle.sheet.specs.declared.Record.{Record}
-use Rattle.sheet.specs.declared.Answer.{Answer}
-use Rattle.sheet.specs.declared.Answer.TheVariants as answer
+use Rattle.sheet.specs.Answers.{Answer}
 use Rattle.sheet.specs.Eight.{each}
 use Rattle.sheet.specs.Layout.{Buffers, Same, takes, record_of, room_for, laid, Holds, spell, mark_of}
 use Rattle.sheet.specs.Check.{is_sheet}
@@ -37,8 +37,7 @@ use Rattle.sheet.proofs.Eights.{every, pick_each, same_self, same_is}
 use Rattle.read_load.proofs.Laws.{holding}
 use Rattle.write.specs.Answers.{line_of, Written}
 use Rattle.write.proofs.Laws.{front, serves}
-use Rattle.convert_buffers.specs.declared.Converted.{Converted}
-use Rattle.convert_buffers.specs.declared.Converted.TheVariants as converted
+use Rattle.sheet.specs.Answers.{Number}
 use Rattle.convert_buffers.specs.Between.{Outcome, writes, refuses, between, overfull, answer_of, output_of, Converts}
 use Rattle.convert.specs.Convert.{unknown_forms, out_of_range, conversion}
 use Rattle.demands.proofs.Calls.{given}
@@ -86,21 +85,21 @@ changes r q d e s t h (tags_reset c w z) = let k = spelled r d s h in rw (z, ←
 changes r q d e s t h (predicted zs w z) = let k = spelled r d s h in rw (z, ← k) (predicted_holds r d zs _ e q w refl)
 
 -- a call that serves lays its sentence down
-lays : (a : Answer) (t : Sentence) (d : Buffers) → answer.Sentence (record_of t) ≡ a → Lays a t d (answer.Sentence (record_of t)) (laid t d)
+lays : (a : Answer) (t : Sentence) (d : Buffers) → Ok (record_of t) ≡ a → Lays a t d (Ok (record_of t)) (laid t d)
 lays a t d e = record { answer_is = e; leaves = same_self (laid t d) }
 
 module _ (r : Record) (d : Buffers) (s : Sentence) (h : Holds r d s) where
-  boundary_served : (i v : ℕ) → i < count s - 1 → v ≤ 2 → answer.Sentence (record_of (set_boundary_of i (mark_of v) (spell r d))) ≡ boundary_answer (is_sheet r d) (spell r d) i v
+  boundary_served : (i v : ℕ) → i < count s - 1 → v ≤ 2 → Ok (record_of (set_boundary_of i (mark_of v) (spell r d))) ≡ boundary_answer (is_sheet r d) (spell r d) i v
   unfolding boundary_answer verdict when◌then◌else◌
   boundary_served i v k l = rw (holds_is r d s h, spelled r d s h, lt-leb (count s - 1) i k, le-ltb 2 v l)
 
   reset_served : (c : ℕ) → c ≤ 4096 → count s * c ≤ length d.cell_starts_buf → count s * c ≤ length d.cell_lengths_buf
-      → answer.Sentence (record_of (reset_tags_of c (spell r d))) ≡ reset_answer (is_sheet r d) (spell r d) c d
+      → Ok (record_of (reset_tags_of c (spell r d))) ≡ reset_answer (is_sheet r d) (spell r d) c d
   unfolding reset_answer lack_cells verdict when◌then◌else◌
   reset_served c k l m =
       rw (holds_is r d s h, spelled r d s h, le-ltb 4096 c k, le-ltb (length d.cell_starts_buf) (count s * c) l, le-ltb (length d.cell_lengths_buf) (count s * c) m)
 
-  decision_served : (zs : List ℤ) → length zs ≡ count s - 1 → answer.Sentence (record_of (scored zs (spell r d))) ≡ score_answer (is_sheet r d) (spell r d) zs
+  decision_served : (zs : List ℤ) → length zs ≡ count s - 1 → Ok (record_of (scored zs (spell r d))) ≡ score_answer (is_sheet r d) (spell r d) zs
   unfolding score_answer verdict when◌then◌else◌
   decision_served zs k = rw (holds_is r d s h, spelled r d s h, eq-eqb (length zs) (count s - 1) k)
 
@@ -153,7 +152,7 @@ own_back f g an x u s (inr e) i j l = rw e (partial_back s u (read_formed f x s 
 
 -- a line that reads to a sentence leaves it, given room
 leaves : (f : Form) (u : List ℕ) (s : Sentence) (d e : Buffers) (a : Answer) → read f u ≡ sentence s → room_for (record_of s) d ≡ true → ReadDoes (read f u) d a e
-    → (a ≡ answer.Sentence (record_of s)) × Holds (record_of s) e s
+    → (a ≡ Ok (record_of s)) × Holds (record_of s) e s
 leaves f u s d e a i n w = let t = demand_2.reads f u s d e a i n w in (t.answer_is, t.holds)
 
 -- ---- the conversion
@@ -164,7 +163,7 @@ module _ (g : Form) (room place end : ℕ) where
       host_order refuses unknown outside overfull (λ (s : Sentence). ltb room (needed g s)) (λ (s : Sentence). needed g s) (λ (s : Sentence). writes (written g s)) r
 
   -- an end that is answered is that of a written line
-  comes_written : (unknown outside : Bool) (r : Result) (s : Sentence) → r ≡ sentence s → converted.Wrote end ≡ answer_of place (comes unknown outside r)
+  comes_written : (unknown outside : Bool) (r : Result) (s : Sentence) → r ≡ sentence s → Ok end ≡ answer_of place (comes unknown outside r)
       → comes unknown outside r ≡ writes (written g s)
   unfolding host_order verdict when◌then◌else◌ answer_of
   comes_written unknown outside (refused n p) s i e = absurd (let z : ◌≡◌ {A = ℕ} 0 1 = cc in omega arith)
@@ -172,25 +171,25 @@ module _ (g : Form) (room place end : ℕ) where
   comes_written false true (sentence t) s i e = absurd (let z : ◌≡◌ {A = ℕ} 0 1 = cc in omega arith)
   comes_written false false (sentence t) s i e = let k : t ≡ s = cc in full (overfull t) e ∙ rw k
     where
-      on : (b : Bool) → converted.Wrote end ≡ answer_of place (when b then refuses (record { number = 12; place = needed g t }) else writes (written g t))
-          → (when b then refuses (record { number = 12; place = needed g t }) else writes (written g t)) ≡ writes (written g t)
+      on : (b : Bool) → Ok end ≡ answer_of place (when b then refuses (refusal 12 (needed g t)) else writes (written g t))
+          → (when b then refuses (refusal 12 (needed g t)) else writes (written g t)) ≡ writes (written g t)
       on true a = absurd (let z : ◌≡◌ {A = ℕ} 0 1 = cc in omega arith)
       on false a = refl
 
       full : (o : Bool)
-          → converted.Wrote end ≡ answer_of place (when o then refuses (record { number = 11; place = 0 }) else (when ltb room (needed g t) then refuses (record { number = 12; place = needed g t }) else writes (written g t)))
-          → (when o then refuses (record { number = 11; place = 0 }) else (when ltb room (needed g t) then refuses (record { number = 12; place = needed g t }) else writes (written g t))) ≡ writes (written g t)
+          → Ok end ≡ answer_of place (when o then refuses (refusal 11 0) else (when ltb room (needed g t) then refuses (refusal 12 (needed g t)) else writes (written g t)))
+          → (when o then refuses (refusal 11 0) else (when ltb room (needed g t) then refuses (refusal 12 (needed g t)) else writes (written g t))) ≡ writes (written g t)
       full true a = absurd (let z : ◌≡◌ {A = ℕ} 0 1 = cc in omega arith)
       full false a = on (ltb room (needed g t)) a
 
 -- it puts the written line of the sentence that is read
 converts : (reader writer : ℕ) (x u out out' : List ℕ) (place end : ℕ) (s : Sentence) → read (form_of reader) x ≡ sentence s → u ≡ written (form_of writer) s
-    → Converts (λ (c : Converted). c) (conversion reader writer x (length out) place) place out (converted.Wrote end) out'
+    → Converts (λ (c : Number). c) (conversion reader writer x (length out) place) place out (Ok end) out'
     → (end ≡ place + length u) × (out' ≡ take place out ++ over u (drop place out))
 unfolding conversion between answer_of output_of
 converts reader writer x u out out' place end s i e w =
     let k = comes_written (form_of writer) (length out - place) place end (unknown_forms reader writer) (out_of_range (length out) place) (read (form_of reader) x) s i w.answer in
-    let a : converted.Wrote end ≡ converted.Wrote (place + length u) = w.answer ∙ rw (k, e) in
+    let a : Ok end ≡ Ok (place + length u) = w.answer ∙ rw (k, e) in
     (cc a, w.output ∙ rw (k, e))
 
 -- ---- there are such trips

@@ -6,3 +6,4 @@ pub mod Withheld
 pub mod Keys
 pub mod Padded
 pub mod Joined
+pub mod Numbers

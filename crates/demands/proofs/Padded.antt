@@ -1,4 +1,5 @@
 -- The padded table over the public functions, from the laws of the layout and of the contracts. Assumes nothing.
+use Rattle.std.specs.Prelude.{Ok, Err}
 use Prim.Native.Nat.{ℕ, ◌+◌, ◌-◌, ◌*◌, ◌≤◌, ◌<◌}
 use native.Mathlib.Omega.{arith}
 use mathlib.Core.Path.{◌≡◌, refl, sym, ap, ◌∙◌}
@@ -22,10 +23,10 @@ use Rattle.sentence.specs.Reading.{sentence, read}
 use Rattle.sentence.specs.Writing.{tokens_from, written}
 use Rattle.sentence.specs.Refusals.{refusal, verdict, host_order}
 use Rattle.sentence.proofs.Shape.{read_narrow}
-use Rattle.sentence.proofs.Forms.{writer_reads}
+use Rattle.sentence.specs.Reading.{Annotated}
+use Rattle.sentence.proofs.Forms.{annotated, writer_reads}
 use Rattle.sheet.specs.declared.Record.{Record}
-use Rattle.sheet.specs.declared.Answer.{Answer}
-use Rattle.sheet.specs.declared.Answer.TheVariants as answer
+use Rattle.sheet.specs.Answers.{Answer}
 use Rattle.sheet.specs.Layout.{Buffers, record_of, tags_of, cells_of, bytes_of, room_for, Holds, spell}
 use Rattle.sheet.specs.Check.{in_limits, is_laid, is_sheet}
 use Rattle.sheet.specs.Listed.{row_ends_of, tag_ends_of, Lists}
@@ -40,11 +41,9 @@ use Rattle.changes.specs.Changes.{lack_cells, reset_answer, TagsReset}
 use Rattle.read_load.specs.Load.{ReadDoes}
 use Rattle.tokens.specs.Steps.{span_of, next_of, list_order, count_of}
 use Rattle.write.specs.Answers.{line_order}
-use Rattle.convert_buffers.specs.declared.Converted.{Converted}
-use Rattle.convert_buffers.specs.declared.Converted.TheVariants as converted
+use Rattle.sheet.specs.Answers.{Number}
 use Rattle.convert_buffers.specs.Between.{writes, refuses, overfull, between, answer_of, output_of, Converts}
 use Rattle.convert.specs.Convert.{unknown_forms, out_of_range, conversion}
-use Rattle.convert.proofs.Placed.{to_annotated}
 use Rattle.demands.specs.Padded.{ToldOf, listed_of, PaddedTable}
 use Rattle.demands.proofs.Demand2.{demand_2}
 use Rattle.demands.proofs.Demand3.{own_back}
@@ -114,7 +113,7 @@ same_answers r d s w e g h l = told r d (listed_of r d s w e g) (holds_is r d s 
 
 same_sentence : (f : Form) (x : List ℕ) (s : Sentence) (d c : Buffers) (a : Answer) (w e g : List ℕ) → read f x ≡ sentence s
     → room_for (record_of s) d ≡ true → ReadDoes (read f x) d a c → Lists s w e g
-    → (a ≡ answer.Sentence (record_of s)) × (spell (record_of s) c ≡ listed_of (record_of s) c s w e g)
+    → (a ≡ Ok (record_of s)) × (spell (record_of s) c ≡ listed_of (record_of s) c s w e g)
 same_sentence f x s d c a w e g i n does l =
     let t = demand_2.reads f x s d c a i n does in
     (t.answer_is, sym (same_spelled (record_of s) c s w e g t.holds l))
@@ -129,11 +128,11 @@ either false b (inl e) = absurd (false≢true e)
 either false b (inr e) = e
 
 module _ (r : Record) (d e : Buffers) (s : Sentence) (c : ℕ) (a : Answer) (h : Holds r d s) (w : TagsReset r d c a e) where
-  reset_columns : 4096 < c → a ≡ answer.Refused (refusal 14 c)
+  reset_columns : 4096 < c → a ≡ Err (refusal 14 c)
   unfolding reset_answer verdict when◌then◌else◌
   reset_columns k = w.answer_is ∙ rw (holds_is r d s h, lt-ltb 4096 c k)
 
-  reset_lacks : c ≤ 4096 → (length d.cell_starts_buf < count s * c) ⊎ (length d.cell_lengths_buf < count s * c) → a ≡ answer.Refused (refusal 11 0)
+  reset_lacks : c ≤ 4096 → (length d.cell_starts_buf < count s * c) ⊎ (length d.cell_lengths_buf < count s * c) → a ≡ Err (refusal 11 0)
   unfolding reset_answer lack_cells verdict when◌then◌else◌
   reset_lacks k l =
       w.answer_is
@@ -157,27 +156,27 @@ module _ (reader writer : ℕ) (x out : List ℕ) (at : ℕ) (s : Sentence) (i :
   unfolding conversion between overfull host_order verdict when◌then◌else◌
   comes_line u o k l = rw (u, o, i, le-ltb 2048 (count s * s.columns) k, le-ltb (length out - at) (length (written (form_of writer) s)) l)
 
-  overfull_refused : (out' : List ℕ) (a : Converted) → unknown_forms reader writer ≡ false → out_of_range (length out) at ≡ false
-      → Converts (λ (c : Converted). c) (conversion reader writer x (length out) at) at out a out' → 2048 < count s * s.columns
-      → (a ≡ converted.Refused (refusal 11 0)) × (out' ≡ out)
+  overfull_refused : (out' : List ℕ) (a : Number) → unknown_forms reader writer ≡ false → out_of_range (length out) at ≡ false
+      → Converts (λ (c : Number). c) (conversion reader writer x (length out) at) at out a out' → 2048 < count s * s.columns
+      → (a ≡ Err (refusal 11 0)) × (out' ≡ out)
   unfolding answer_of output_of
   overfull_refused out' a u o w k = let z = comes_full u o k in (w.answer ∙ rw z, w.output ∙ rw z)
 
-  fitting_served : (out' : List ℕ) (a : Converted) → unknown_forms reader writer ≡ false → out_of_range (length out) at ≡ false
-      → Converts (λ (c : Converted). c) (conversion reader writer x (length out) at) at out a out' → count s * s.columns ≤ 2048
+  fitting_served : (out' : List ℕ) (a : Number) → unknown_forms reader writer ≡ false → out_of_range (length out) at ≡ false
+      → Converts (λ (c : Number). c) (conversion reader writer x (length out) at) at out a out' → count s * s.columns ≤ 2048
       → length (written (form_of writer) s) ≤ length out - at
-      → (a ≡ converted.Wrote (at + length (written (form_of writer) s))) × (out' ≡ take at out ++ over (written (form_of writer) s) (drop at out))
+      → (a ≡ Ok (at + length (written (form_of writer) s))) × (out' ≡ take at out ++ over (written (form_of writer) s) (drop at out))
   unfolding answer_of output_of
   fitting_served out' a u o w k l = let z = comes_line u o k l in (w.answer ∙ rw z, w.output ∙ rw z)
 
   -- a line that was written has known forms and few cells
-  few : (out' : List ℕ) (end : ℕ) → Converts (λ (c : Converted). c) (conversion reader writer x (length out) at) at out (converted.Wrote end) out'
+  few : (out' : List ℕ) (end : ℕ) → Converts (λ (c : Number). c) (conversion reader writer x (length out) at) at out (Ok end) out'
       → (unknown_forms reader writer ≡ false) × (count s * s.columns ≤ 2048)
   unfolding conversion between overfull host_order verdict when◌then◌else◌ answer_of
   few out' end w = on (unknown_forms reader writer) (out_of_range (length out) at) (ltb 2048 (count s * s.columns)) refl refl (w.answer ∙ rw i)
     where
       on : (u o k : Bool) → unknown_forms reader writer ≡ u → ltb 2048 (count s * s.columns) ≡ k
-          → converted.Wrote end ≡ answer_of at (when u then refuses (refusal 16 0) else (when o then refuses (refusal 14 0) else (when k then refuses (refusal 11 0) else
+          → Ok end ≡ answer_of at (when u then refuses (refusal 16 0) else (when o then refuses (refusal 14 0) else (when k then refuses (refusal 11 0) else
           (when ltb (length out - at) (length (written (form_of writer) s)) then refuses (refusal 12 (length (written (form_of writer) s))) else writes (written (form_of writer) s)))))
           → (unknown_forms reader writer ≡ false) × (count s * s.columns ≤ 2048)
       on true o k p q e = absurd (let z : ◌≡◌ {A = ℕ} 0 1 = cc in omega arith)
@@ -185,20 +184,24 @@ module _ (reader writer : ℕ) (x out : List ℕ) (at : ℕ) (s : Sentence) (i :
       on false false true p q e = absurd (let z : ◌≡◌ {A = ℕ} 0 1 = cc in omega arith)
       on false false false p q e = (p, ltb-false 2048 (count s * s.columns) q)
 
+to_annotated : (reader writer : ℕ) → unknown_forms reader writer ≡ false → Annotated (form_of writer)
+unfolding unknown_forms
+to_annotated reader writer h = annotated writer (neither (no_reader reader) (no_writer writer) h).1 refl
+
 -- a form that may be written may be read
 known_again : (reader writer : ℕ) → unknown_forms reader writer ≡ false → unknown_forms writer writer ≡ false
 unfolding unknown_forms
 known_again reader writer h = let k = (neither (no_reader reader) (no_writer writer) h).1 in rw (writer_reads writer k, k)
 
-back : (reader writer : ℕ) (x u out out' buf buf' : List ℕ) (at end p : ℕ) (a : Converted) (s : Sentence)
+back : (reader writer : ℕ) (x u out out' buf buf' : List ℕ) (at end p : ℕ) (a : Number) (s : Sentence)
     → (form_of reader ≡ form_of writer) ⊎ (form_of writer ≡ partial) → read (form_of reader) x ≡ sentence s → u ≡ written (form_of writer) s
-    → Converts (λ (c : Converted). c) (conversion reader writer x (length out) at) at out (converted.Wrote end) out'
+    → Converts (λ (c : Number). c) (conversion reader writer x (length out) at) at out (Ok end) out'
     → length u ≤ 4096 → out_of_range (length buf) p ≡ false → length u ≤ length buf - p
-    → Converts (λ (c : Converted). c) (conversion writer writer u (length buf) p) p buf a buf'
-    → (a ≡ converted.Wrote (p + length u)) × (buf' ≡ take p buf ++ over u (drop p buf))
+    → Converts (λ (c : Number). c) (conversion writer writer u (length buf) p) p buf a buf'
+    → (a ≡ Ok (p + length u)) × (buf' ≡ take p buf ++ over u (drop p buf))
 back reader writer x u out out' buf buf' at end p a s f i e w l o m v =
     let k = few reader writer x out at s i out' end w in
-    let y = own_back (form_of reader) (form_of writer) (to_annotated reader writer refl k.0 refl) x u s f i e l in
+    let y = own_back (form_of reader) (form_of writer) (to_annotated reader writer k.0) x u s f i e l in
     let z = fitting_served writer writer u buf p s y buf' a (known_again reader writer k.0) o v k.1 (rw e at m) in
     rw e z
 

@@ -1,11 +1,9 @@
 -- Calls on a sheet that write at the front of an output, by any contract, and the readers' calls that lay a sheet down.
-use Rattle.std.specs.Prelude.{ℕ, ◌≡◌, List, length, take}
+use Rattle.std.specs.Prelude.{ℕ, ◌≡◌, List, length, take, Ok}
 use Rattle.sentence.specs.declared.Form.{Form}
 use Rattle.sentence.specs.Reading.{read}
 use Rattle.sheet.specs.declared.Record.{Record}
-use Rattle.sheet.specs.declared.Number.{Number}
-use Rattle.sheet.specs.declared.Answer.TheVariants as answer
-use Rattle.sheet.specs.declared.Number.TheVariants as number
+use Rattle.sheet.specs.Answers.{Number}
 use Rattle.sheet.specs.Layout.{Buffers, Sheet}
 use Rattle.read_load.specs.Load.{ReadDoes}
 
@@ -18,7 +16,7 @@ pub record Gives (Does : Contract) (r : Record) (d : Buffers) (w : List ℕ) : T
   pub output_before : List ℕ
   pub output_after : List ℕ
   pub the_length : ℕ
-  pub does : Does r d output_before (number.Is the_length) output_after
+  pub does : Does r d output_before (Ok the_length) output_after
   pub line_is : w ≡ take the_length output_after
 
 -- two sheets, and a call on each
@@ -44,4 +42,4 @@ pub record Alike {Does : Contract} {r q : Record} {d c : Buffers} (t : TwoCalls 
 -- reading the line x in the form f answers the record q and leaves the buffers c, by the readers' contract
 pub record Laid (f : Form) (x : List ℕ) (q : Record) (c : Buffers) : Type 0 where
   pub buffers_before : Buffers
-  pub reads : ReadDoes (read f x) buffers_before (answer.Sentence q) c
+  pub reads : ReadDoes (read f x) buffers_before (Ok q) c

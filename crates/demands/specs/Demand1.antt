@@ -1,6 +1,7 @@
 -- Demand 1: every public entry takes any bytes and numbers, ends, and serves or refuses by a number at a place; a refused call alters nothing
 -- lent to it. That a call ends belongs to every contract; each row says the rest of one entry, of every outcome that meets its contract.
-use Rattle.std.specs.Prelude.{ℕ, ◌+◌, ◌≤◌, ◌<◌, ◌≡◌, ◌↔◌, ◌⊎◌, Bool, true, false, ◌&&◌, ◌||◌, List, [], ◌∷◌, ◌++◌, eqb, ltb, ℤ, length, get_or}
+use Rattle.std.specs.Prelude.{ℕ, ◌+◌, ◌≤◌, ◌<◌, ◌≡◌, ◌↔◌, ◌⊎◌, Bool, true, false, ◌&&◌, ◌||◌, List, [], ◌∷◌, ◌++◌, eqb, ltb, ℤ, length, get_or, Ok, Err}
+use Rattle.std.specs.Prelude as prelude
 use Prim.Native.Char.{code as chr}
 use Rattle.laws.specs.If.{when◌then◌else◌}
 use Rattle.utf8.specs.declared.Decoded.{Decoded}
@@ -12,14 +13,10 @@ use Rattle.sentence.specs.declared.Form.{Form}
 use Rattle.sentence.specs.declared.Form.TheVariants.{Raw as raw, Tokenized as tokenized, Partial as partial}
 use Rattle.sentence.specs.Forms.{form_of}
 use Rattle.sentence.specs.Reading.{Result, sentence, refused, read}
+use Rattle.sentence.specs.Refusals.{number}
 use Rattle.sentence.specs.Writing.{needed, blank}
 use Rattle.sheet.specs.declared.Record.{Record}
-use Rattle.sheet.specs.declared.Answer.{Answer}
-use Rattle.sheet.specs.declared.Answer.TheVariants as answer
-use Rattle.sheet.specs.declared.Number.{Number}
-use Rattle.sheet.specs.declared.Number.TheVariants as number
-use Rattle.sheet.specs.declared.Slice.{Slice}
-use Rattle.sheet.specs.declared.Slice.TheVariants as slice
+use Rattle.sheet.specs.Answers.{Answer, Number, Slice, slice_of}
 use Rattle.sheet.specs.Layout.{Buffers, laid, spell, Sheet}
 use Rattle.sheet.specs.Check.{is_sheet}
 use Rattle.lookups.specs.Answers.{char_to_str_pos_of, str_to_char_pos_of, boundary_at, tag_at, surface_at}
@@ -28,12 +25,8 @@ use Rattle.scores.specs.Scores.{Predicted}
 use Rattle.read_load.specs.Load.{lacks, ReadDoes}
 use Rattle.read.specs.Read.{UpdateDoes}
 use Rattle.tokens.specs.declared.Token.{Token}
-use Rattle.tokens.specs.declared.Next.{Next}
-use Rattle.tokens.specs.declared.Next.TheVariants as next
-use Rattle.tokens.specs.Steps.{tokens_of, next_of, Listed}
+use Rattle.tokens.specs.Steps.{Next, tokens_of, next_of, Listed}
 use Rattle.write.specs.Answers.{line_of, Written, copy_of, Withholds, key_of, Keyed}
-use Rattle.convert_buffers.specs.declared.Converted.{Converted}
-use Rattle.convert_buffers.specs.declared.Converted.TheVariants as converted
 use Rattle.convert_buffers.specs.Between.{overfull, Converts}
 use Rattle.convert.specs.Convert.{conversion}
 use Rattle.exports.specs.Exports.{code_of, read_code, HostReads, number_code, HostWrites, nearest, HostWithholds, HostKeys, step_code, HostSteps}
@@ -45,26 +38,9 @@ pub data Said : Type 0 where
   serves : Said
   refuses : Refusal → Said
 
-unfoldable pub of_answer : Answer → Said
-of_answer (answer.Sentence r) = serves
-of_answer (answer.Refused x) = refuses x
-
-unfoldable pub of_number : Number → Said
-of_number (number.Is n) = serves
-of_number (number.Refused x) = refuses x
-
-unfoldable pub of_slice : Slice → Said
-of_slice (slice.Bytes b e) = serves
-of_slice slice.Absent = serves
-of_slice (slice.Refused x) = refuses x
-
-unfoldable pub of_next : Next → Said
-of_next (next.Is s) = serves
-of_next (next.Refused x) = refuses x
-
-unfoldable pub of_converted : Converted → Said
-of_converted (converted.Wrote e) = serves
-of_converted (converted.Refused x) = refuses x
+unfoldable pub said : {A : Type 0} → prelude.Result A Refusal → Said
+said (Ok a) = serves
+said (Err x) = refuses x
 
 -- what is allowed: a number at one place, at any byte of a line, or at one that is the byte b
 pub data Allowed : Type 0 where
@@ -73,9 +49,9 @@ pub data Allowed : Type 0 where
   at_byte : ℕ → ℕ → List ℕ → Allowed
 
 unfoldable pub allows : Allowed → Refusal → Bool
-allows (exactly n p) y = eqb y.number n && eqb y.place p
-allows (inside n x) y = eqb y.number n && ltb y.place (length x)
-allows (at_byte n b x) y = eqb y.number n && (ltb y.place (length x) && eqb (get_or x y.place 0) b)
+allows (exactly n p) y = eqb (number y) n && eqb y.place p
+allows (inside n x) y = eqb (number y) n && ltb y.place (length x)
+allows (at_byte n b x) y = eqb (number y) n && (ltb y.place (length x) && eqb (get_or x y.place 0) b)
 
 -- a refusal is one of these
 unfoldable pub one_of : List Allowed → Refusal → Bool
@@ -151,75 +127,75 @@ Stands s at decoded.End = Unit {0}
 
 pub record Demand1 : Type 0 where
   -- the readers; `load` is given the form
-  pub load : (f : Form) (line : List ℕ) (d e : Buffers) (a : Answer) → ReadDoes (read f line) d a e → Settled (read_refusals f line) (of_answer a) d e
-  pub from_raw : (line : List ℕ) (d e : Buffers) (a : Answer) → ReadDoes (read raw line) d a e → Settled (read_refusals raw line) (of_answer a) d e
+  pub load : (f : Form) (line : List ℕ) (d e : Buffers) (a : Answer) → ReadDoes (read f line) d a e → Settled (read_refusals f line) (said a) d e
+  pub from_raw : (line : List ℕ) (d e : Buffers) (a : Answer) → ReadDoes (read raw line) d a e → Settled (read_refusals raw line) (said a) d e
   pub from_tokenized : (line : List ℕ) (d e : Buffers) (a : Answer) → ReadDoes (read tokenized line) d a e
-      → Settled (read_refusals tokenized line) (of_answer a) d e
+      → Settled (read_refusals tokenized line) (said a) d e
   pub from_partial_annotation : (line : List ℕ) (d e : Buffers) (a : Answer) → ReadDoes (read partial line) d a e
-      → Settled (read_refusals partial line) (of_answer a) d e
+      → Settled (read_refusals partial line) (said a) d e
   -- their updates
   pub update_raw : (line : List ℕ) (d e : Buffers) (a : Answer) → UpdateDoes (read raw line) d a e
-      → Blanked (update_refusals raw line) (of_answer a) d e
+      → Blanked (update_refusals raw line) (said a) d e
   pub update_tokenized : (line : List ℕ) (d e : Buffers) (a : Answer) → UpdateDoes (read tokenized line) d a e
-      → Blanked (update_refusals tokenized line) (of_answer a) d e
+      → Blanked (update_refusals tokenized line) (said a) d e
   pub update_partial_annotation : (line : List ℕ) (d e : Buffers) (a : Answer) → UpdateDoes (read partial line) d a e
-      → Blanked (update_refusals partial line) (of_answer a) d e
+      → Blanked (update_refusals partial line) (said a) d e
   -- the writers and the note key
   pub write_tokenized_text : (r : Record) (d : Buffers) (out out' : List ℕ) (a : Number) → Written tokenized r d out a out'
-      → Settled (fill_refusals (length (line_of tokenized r d))) (of_number a) out out'
+      → Settled (fill_refusals (length (line_of tokenized r d))) (said a) out out'
   pub write_partial_annotation_text : (r : Record) (d : Buffers) (out out' : List ℕ) (a : Number) → Written partial r d out a out'
-      → Settled (fill_refusals (length (line_of partial r d))) (of_number a) out out'
+      → Settled (fill_refusals (length (line_of partial r d))) (said a) out out'
   pub note_key : (r : Record) (d : Buffers) (out out' : List ℕ) (a : Number) → Keyed r d out a out'
-      → Settled (fill_refusals (length (key_of r d))) (of_number a) out out'
+      → Settled (fill_refusals (length (key_of r d))) (said a) out out'
   -- the withheld copy
   pub write_withheld_text : (r : Record) (d : Buffers) (b e : ℕ) (out out' : List ℕ) (a : Number) → Withholds r d b e out a out'
-      → Settled (copy_refusals b (length (copy_of r d b e))) (of_number a) out out'
+      → Settled (copy_refusals b (length (copy_of r d b e))) (said a) out out'
   -- the token cursor and the token list
-  pub next_token : (r : Record) (d : Buffers) (p : ℕ) (a : Next) → a ≡ next_of r d p → Answers (exactly 13 0 ∷ []) (of_next a)
+  pub next_token : (r : Record) (d : Buffers) (p : ℕ) (a : Next) → a ≡ next_of r d p → Answers (exactly 13 0 ∷ []) (said a)
   pub token_list : (r : Record) (d : Buffers) (l l' : List Token) (a : Number) → Listed r d l a l'
-      → Settled (fill_refusals (length (tokens_of r d))) (of_number a) l l'
+      → Settled (fill_refusals (length (tokens_of r d))) (said a) l l'
   -- the look-ups, which alter nothing
   pub char_to_str_pos : (r : Record) (d : Buffers) (i : ℕ) (a : Number) → a ≡ char_to_str_pos_of (is_sheet r d) (spell r d) i
-      → Answers (ask_refusals i) (of_number a)
+      → Answers (ask_refusals i) (said a)
   pub str_to_char_pos : (r : Record) (d : Buffers) (p : ℕ) (a : Number) → a ≡ str_to_char_pos_of (is_sheet r d) (spell r d) p
-      → Answers (ask_refusals p) (of_number a)
+      → Answers (ask_refusals p) (said a)
   pub boundary : (r : Record) (d : Buffers) (i : ℕ) (a : Number) → a ≡ boundary_at (is_sheet r d) (spell r d) i
-      → Answers (ask_refusals i) (of_number a)
+      → Answers (ask_refusals i) (said a)
   pub tag : (r : Record) (d : Buffers) (row column : ℕ) (a : Slice) → a ≡ tag_at (is_sheet r d) (spell r d) row column
-      → Answers (ask_refusals row) (of_slice a)
+      → Answers (ask_refusals row) (said a)
   pub surface : (r : Record) (d : Buffers) (b e : ℕ) (a : Slice) → a ≡ surface_at (is_sheet r d) (spell r d) b e
-      → Answers (ask_refusals b) (of_slice a)
+      → Answers (ask_refusals b) (said a)
   -- an answered slice lies within the buffer that it is of
   pub tag_within : (r : Record) (d : Buffers) (row column : ℕ) (a : Slice) (b e : ℕ) → a ≡ tag_at (is_sheet r d) (spell r d) row column
-      → a ≡ slice.Bytes b e → (b ≤ e) × (e ≤ length d.tag_bytes_buf)
+      → a ≡ slice_of b e → (b ≤ e) × (e ≤ length d.tag_bytes_buf)
   pub surface_within : (r : Record) (d : Buffers) (i j : ℕ) (a : Slice) (b e : ℕ) → a ≡ surface_at (is_sheet r d) (spell r d) i j
-      → a ≡ slice.Bytes b e → (b ≤ e) × (e ≤ length d.text_buf)
+      → a ≡ slice_of b e → (b ≤ e) × (e ≤ length d.text_buf)
   -- the changes and the boundary decision
-  pub set_default : (d e : Buffers) (a : Answer) → DefaultSet d a e → Settled (exactly 15 0 ∷ []) (of_answer a) d e
-  pub set_boundary : (r : Record) (d e : Buffers) (i v : ℕ) (a : Answer) → BoundarySet r d i v a e → Settled (ask_refusals i) (of_answer a) d e
-  pub reset_tags : (r : Record) (d e : Buffers) (c : ℕ) (a : Answer) → TagsReset r d c a e → Settled (reset_refusals c) (of_answer a) d e
-  pub predict : (r : Record) (d e : Buffers) (zs : List ℤ) (a : Answer) → Predicted r d zs a e → Settled (ask_refusals (length zs)) (of_answer a) d e
+  pub set_default : (d e : Buffers) (a : Answer) → DefaultSet d a e → Settled (exactly 15 0 ∷ []) (said a) d e
+  pub set_boundary : (r : Record) (d e : Buffers) (i v : ℕ) (a : Answer) → BoundarySet r d i v a e → Settled (ask_refusals i) (said a) d e
+  pub reset_tags : (r : Record) (d e : Buffers) (c : ℕ) (a : Answer) → TagsReset r d c a e → Settled (reset_refusals c) (said a) d e
+  pub predict : (r : Record) (d e : Buffers) (zs : List ℤ) (a : Answer) → Predicted r d zs a e → Settled (ask_refusals (length zs)) (said a) d e
   -- the check: yes or no, and yes exactly where the buffers are a sheet
   pub check : (r : Record) (d : Buffers) (a : Bool) → a ≡ is_sheet r d → (a ≡ true) ↔ Sheet r d
   -- the conversion, and the same for the host, whose number is that of an answer
-  pub convert : (reader writer : ℕ) (line out out' : List ℕ) (at : ℕ) (a : Converted)
-      → Converts (λ (c : Converted). c) (conversion reader writer line (length out) at) at out a out'
-      → Settled (convert_refusals (form_of reader) (form_of writer) line) (of_converted a) out out'
+  pub convert : (reader writer : ℕ) (line out out' : List ℕ) (at : ℕ) (a : Number)
+      → Converts (λ (c : Number). c) (conversion reader writer line (length out) at) at out a out'
+      → Settled (convert_refusals (form_of reader) (form_of writer) line) (said a) out out'
   pub ighdelmur_convert : (reader writer : ℕ) (line out out' : List ℕ) (at a : ℕ)
       → Converts code_of (conversion reader writer line (length out) at) at out a out'
-      → (c : Converted) × (a ≡ code_of c) × Settled (convert_refusals (form_of reader) (form_of writer) line) (of_converted c) out out'
+      → (c : Number) × (a ≡ code_of c) × Settled (convert_refusals (form_of reader) (form_of writer) line) (said c) out out'
   -- the host's other calls, whose number is that of an answer
   pub ighdelmur_read : (form : ℕ) (line : List ℕ) (d e : Buffers) (ns ns' : List ℕ) (a : ℕ) → HostReads form line d ns a e ns'
       → (c : Answer) × (a ≡ read_code c)
-      × Settled {M = Buffers × List ℕ} (exactly 16 0 ∷ exactly 14 0 ∷ read_refusals (form_of form) line) (of_answer c) (d, ns) (e, ns')
+      × Settled {M = Buffers × List ℕ} (exactly 16 0 ∷ exactly 14 0 ∷ read_refusals (form_of form) line) (said c) (d, ns) (e, ns')
   pub ighdelmur_write : (form : ℕ) (r : Record) (d : Buffers) (out out' : List ℕ) (a : ℕ) → HostWrites form r d out a out'
-      → (c : Number) × (a ≡ number_code c) × Settled (exactly 16 0 ∷ fill_refusals (length (line_of (form_of form) r d))) (of_number c) out out'
+      → (c : Number) × (a ≡ number_code c) × Settled (exactly 16 0 ∷ fill_refusals (length (line_of (form_of form) r d))) (said c) out out'
   pub ighdelmur_withhold : (r : Record) (d : Buffers) (b e : ℕ) (out out' : List ℕ) (a : ℕ) → HostWithholds r d b e out a out'
-      → (c : Number) × (a ≡ number_code c) × Settled (copy_refusals (nearest b) (length (copy_of r d b e))) (of_number c) out out'
+      → (c : Number) × (a ≡ number_code c) × Settled (copy_refusals (nearest b) (length (copy_of r d b e))) (said c) out out'
   pub ighdelmur_key : (r : Record) (d : Buffers) (out out' : List ℕ) (a : ℕ) → HostKeys r d out a out'
-      → (c : Number) × (a ≡ number_code c) × Settled (fill_refusals (length (key_of r d))) (of_number c) out out'
+      → (c : Number) × (a ≡ number_code c) × Settled (fill_refusals (length (key_of r d))) (said c) out out'
   pub ighdelmur_next_token : (r : Record) (d : Buffers) (p : ℕ) (span span' : List ℕ) (a : ℕ) → HostSteps r d p span a span'
-      → (c : Next) × (a ≡ step_code c) × Settled (exactly 13 0 ∷ exactly 14 0 ∷ []) (of_next c) span span'
+      → (c : Next) × (a ≡ step_code c) × Settled (exactly 13 0 ∷ exactly 14 0 ∷ []) (said c) span span'
   -- the program: a run that is over without a failed call has written the answers to all that it has read; while the end of the input was not
   -- seen, what it has written begins the answers to the lines whose LF was read
   pub program_ends : (room : ℕ) (x w : List ℕ) (a : State) → 8194 ≤ room → Run room x w a → goes a ≡ false → a.failed ≡ false → w ≡ respell x

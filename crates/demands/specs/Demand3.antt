@@ -1,5 +1,5 @@
 -- Demand 3 over the public functions: what a line becomes that is read by one of them and written by another, and what a sheet becomes that is written.
-use Rattle.std.specs.Prelude.{ℕ, ◌+◌, ◌-◌, ◌*◌, ◌≤◌, ◌<◌, ◌≡◌, ◌↔◌, true, List, ◌++◌, ℤ, length, take, drop}
+use Rattle.std.specs.Prelude.{ℕ, ◌+◌, ◌-◌, ◌*◌, ◌≤◌, ◌<◌, ◌≡◌, ◌↔◌, true, List, ◌++◌, ℤ, length, take, drop, Ok}
 use Rattle.laws.specs.Put.{over}
 use Rattle.sentence.specs.Sentence.{Sentence, count, Agree, NoUnknown, NoneInside}
 use Rattle.sentence.specs.declared.Form.{Form}
@@ -8,15 +8,13 @@ use Rattle.sentence.specs.Forms.{form_of}
 use Rattle.sentence.specs.Reading.{Annotated, sentence, read}
 use Rattle.sentence.specs.Writing.{written, set_boundary_of, reset_tags_of, scored}
 use Rattle.sheet.specs.declared.Record.{Record}
-use Rattle.sheet.specs.declared.Answer.{Answer}
-use Rattle.sheet.specs.declared.Answer.TheVariants as answer
+use Rattle.sheet.specs.Answers.{Answer}
 use Rattle.sheet.specs.Layout.{Buffers, record_of, room_for, Holds, mark_of}
 use Rattle.changes.specs.Changes.{BoundarySet, TagsReset}
 use Rattle.scores.specs.Scores.{Predicted}
 use Rattle.read_load.specs.Load.{ReadDoes}
 use Rattle.write.specs.Answers.{Written}
-use Rattle.convert_buffers.specs.declared.Converted.{Converted}
-use Rattle.convert_buffers.specs.declared.Converted.TheVariants as converted
+use Rattle.sheet.specs.Answers.{Number}
 use Rattle.convert_buffers.specs.Between.{Converts}
 use Rattle.convert.specs.Convert.{conversion}
 use Rattle.demands.specs.Calls.{Gives}
@@ -30,14 +28,14 @@ pub record Respelt (f g : Form) (x w : List ℕ) : Type 0 where
   pub buffers_before : Buffers
   pub buffers_after : Buffers
   pub the_record : Record
-  pub reads : ReadDoes (read f x) buffers_before (answer.Sentence the_record) buffers_after
+  pub reads : ReadDoes (read f x) buffers_before (Ok the_record) buffers_after
   pub spelt : Spelt g the_record buffers_after w
 
 -- a call that changes a sheet, by its contract: r and d before it, q and e after it; t is the sentence s with that change
 pub data Changed (r : Record) (d : Buffers) (s : Sentence) (q : Record) (e : Buffers) (t : Sentence) : Type 0 where
-  boundary_set : (i v : ℕ) → BoundarySet r d i v (answer.Sentence q) e → t ≡ set_boundary_of i (mark_of v) s → Changed r d s q e t
-  tags_reset : (c : ℕ) → TagsReset r d c (answer.Sentence q) e → t ≡ reset_tags_of c s → Changed r d s q e t
-  predicted : (zs : List ℤ) → Predicted r d zs (answer.Sentence q) e → t ≡ scored zs s → Changed r d s q e t
+  boundary_set : (i v : ℕ) → BoundarySet r d i v (Ok q) e → t ≡ set_boundary_of i (mark_of v) s → Changed r d s q e t
+  tags_reset : (c : ℕ) → TagsReset r d c (Ok q) e → t ≡ reset_tags_of c s → Changed r d s q e t
+  predicted : (zs : List ℤ) → Predicted r d zs (Ok q) e → t ≡ scored zs s → Changed r d s q e t
 
 -- no unknown boundary, and no present tag inside a token
 abbrev pub Tokenwise : Sentence → Type 0
@@ -51,7 +49,7 @@ pub record Demand3 : Type 0 where
   pub reads_back : (f : Form) → Annotated f → (x u : List ℕ) → Respelt f f x u → length u ≤ 4096 → read f u ≡ read f x
   -- read into buffers with room for its cells, which are N times columns, it leaves that sentence
   pub back_leaves : (f : Form) → Annotated f → (x u : List ℕ) (s : Sentence) (d e : Buffers) (a : Answer) → read f x ≡ sentence s → Respelt f f x u
-      → length u ≤ 4096 → room_for (record_of s) d ≡ true → ReadDoes (read f u) d a e → (a ≡ answer.Sentence (record_of s)) × Holds (record_of s) e s
+      → length u ≤ 4096 → room_for (record_of s) d ≡ true → ReadDoes (read f u) d a e → (a ≡ Ok (record_of s)) × Holds (record_of s) e s
   -- and writes to itself
   pub writes_itself : (f : Form) → Annotated f → (x u w : List ℕ) → Respelt f f x u → length u ≤ 4096 → Respelt f f u w → w ≡ u
   -- so do lines of any two forms, written in the partial form
@@ -69,7 +67,7 @@ pub record Demand3 : Type 0 where
   pub writes_once : (f g : Form) (x u w : List ℕ) → Respelt f g x u → Respelt f g x w → w ≡ u
   -- and the conversion puts that same line behind its place
   pub converts : (reader writer : ℕ) (x u out out' : List ℕ) (at end : ℕ) → Respelt (form_of reader) (form_of writer) x u
-      → Converts (λ (c : Converted). c) (conversion reader writer x (length out) at) at out (converted.Wrote end) out'
+      → Converts (λ (c : Number). c) (conversion reader writer x (length out) at) at out (Ok end) out'
       → (end ≡ at + length u) × (out' ≡ take at out ++ over u (drop at out))
   -- of any sheet, however it was made, the same holds
   pub sheet_canonical : (r q : Record) (d e : Buffers) (s t : Sentence) (u v : List ℕ) → Holds r d s → Holds q e t
@@ -77,7 +75,7 @@ pub record Demand3 : Type 0 where
   pub sheet_reads_back : (r : Record) (d : Buffers) (s : Sentence) (u : List ℕ) → Holds r d s → Spelt partial r d u → length u ≤ 4096
       → read partial u ≡ sentence s
   pub sheet_back_leaves : (r : Record) (d c e : Buffers) (s : Sentence) (u : List ℕ) (a : Answer) → Holds r d s → Spelt partial r d u → length u ≤ 4096
-      → room_for (record_of s) c ≡ true → ReadDoes (read partial u) c a e → (a ≡ answer.Sentence (record_of s)) × Holds (record_of s) e s
+      → room_for (record_of s) c ≡ true → ReadDoes (read partial u) c a e → (a ≡ Ok (record_of s)) × Holds (record_of s) e s
   pub sheet_survives : (r : Record) (d : Buffers) (s : Sentence) (u : List ℕ) → Holds r d s → Spelt tokenized r d u → length u ≤ 4096
       → (read tokenized u ≡ sentence s) ↔ Tokenwise s
   pub sheet_told_apart : (r q : Record) (d e : Buffers) (s t : Sentence) (u v : List ℕ) → Holds r d s → Holds q e t → Tokenwise s → Tokenwise t

@@ -8,7 +8,7 @@ use Rattle.sentence.specs.Writing.{written}
 use Rattle.sentence.specs.Joined.{join, IsJoin, join_all, JoinsBy, glued, glued_all, ends_lone, Chain}
 use Rattle.sentence.specs.Withheld.{SameNote}
 use Rattle.sheet.specs.declared.Record.{Record}
-use Rattle.sheet.specs.declared.Answer.{Answer}
+use Rattle.sheet.specs.Answers.{Answer}
 use Rattle.sheet.specs.Layout.{Buffers, record_of, room_for, Holds, spell}
 use Rattle.read_load.specs.Load.{ReadDoes}
 use Rattle.demands.specs.Calls.{Laid}

@@ -7,7 +7,7 @@ use Rattle.sentence.specs.Reading.{sentence, read}
 use Rattle.sentence.specs.Writing.{written}
 use Rattle.sentence.specs.Withheld.{trimmed, tag_in, SameNote}
 use Rattle.sheet.specs.declared.Record.{Record}
-use Rattle.sheet.specs.declared.Number.{Number}
+use Rattle.sheet.specs.Answers.{Number}
 use Rattle.sheet.specs.Layout.{Buffers, spell, Sheet}
 use Rattle.write.specs.Answers.{Withholds, Keyed}
 use Rattle.demands.specs.Calls.{Gives, TwoCalls, Alike, Laid}

@@ -1,5 +1,5 @@
 -- The padded table over the public functions: where the cells stand, that each answer is the one of listed rows, and who holds how many cells.
-use Rattle.std.specs.Prelude.{ℕ, ◌+◌, ◌-◌, ◌*◌, ◌≤◌, ◌<◌, ◌≡◌, ◌↔◌, ◌⊎◌, true, false, List, [], ◌∷◌, ◌++◌, map, ltb, length, take, drop, get_or}
+use Rattle.std.specs.Prelude.{ℕ, ◌+◌, ◌-◌, ◌*◌, ◌≤◌, ◌<◌, ◌≡◌, ◌↔◌, ◌⊎◌, true, false, List, [], ◌∷◌, ◌++◌, map, ltb, length, take, drop, get_or, Ok, Err}
 use Rattle.laws.specs.Put.{over}
 use Rattle.utf8.specs.Utf8.{size}
 use Rattle.sentence.specs.Sentence.{Sentence, marks, rows, count, table, listed, row_bytes, Formed}
@@ -11,10 +11,9 @@ use Rattle.sentence.specs.Writing.{tokens_from, next_token_of, written, key}
 use Rattle.sentence.specs.Withheld.{withheld}
 use Rattle.sentence.specs.Refusals.{refusal, check}
 use Rattle.sheet.specs.declared.Record.{Record}
-use Rattle.sheet.specs.declared.Answer.{Answer}
-use Rattle.sheet.specs.declared.Answer.TheVariants as answer
-use Rattle.sheet.specs.declared.Number.{Number}
-use Rattle.sheet.specs.declared.Slice.{Slice}
+use Rattle.sheet.specs.Answers.{Answer}
+use Rattle.sheet.specs.Answers.{Number}
+use Rattle.sheet.specs.Answers.{Slice}
 use Rattle.sheet.specs.Layout.{Buffers, record_of, tags_of, cells_of, bytes_of, laid, room_for, Holds, spell}
 use Rattle.sheet.specs.Check.{is_sheet}
 use Rattle.sheet.specs.Listed.{row_ends_of, tag_ends_of, Lists, spell_listed}
@@ -22,12 +21,10 @@ use Rattle.lookups.specs.Answers.{char_to_str_pos_of, str_to_char_pos_of, bounda
 use Rattle.changes.specs.Changes.{TagsReset}
 use Rattle.read_load.specs.Load.{ReadDoes}
 use Rattle.tokens.specs.declared.Token.{Token}
-use Rattle.tokens.specs.declared.Next.{Next}
-use Rattle.tokens.specs.declared.Next.TheVariants as next
+use Rattle.tokens.specs.Steps.{Next}
 use Rattle.tokens.specs.Steps.{span_of, step_of, next_of, Listed}
 use Rattle.write.specs.Answers.{Puts, Written, no_range, Withholds, Keyed}
-use Rattle.convert_buffers.specs.declared.Converted.{Converted}
-use Rattle.convert_buffers.specs.declared.Converted.TheVariants as converted
+use Rattle.sheet.specs.Answers.{Number}
 use Rattle.convert_buffers.specs.Between.{Converts}
 use Rattle.convert.specs.Convert.{unknown_forms, out_of_range, conversion}
 
@@ -42,7 +39,7 @@ pub record ToldOf (r : Record) (d : Buffers) (t : Sentence) : Type 0 where
   pub boundary : (i : ℕ) (a : Number) → a ≡ boundary_at (is_sheet r d) (spell r d) i → a ≡ boundary_at true t i
   pub tag : (row column : ℕ) (a : Slice) → a ≡ tag_at (is_sheet r d) (spell r d) row column → a ≡ tag_at true t row column
   pub surface : (b e : ℕ) (a : Slice) → a ≡ surface_at (is_sheet r d) (spell r d) b e → a ≡ surface_at true t b e
-  pub next_token : (p : ℕ) (a : Next) → a ≡ next_of r d p → a ≡ next.Is (step_of (next_token_of (marks t) (count t) p))
+  pub next_token : (p : ℕ) (a : Next) → a ≡ next_of r d p → a ≡ Ok (step_of (next_token_of (marks t) (count t) p))
   pub token_list : (l l' : List Token) (a : Number) → Listed r d l a l' → Fills (map span_of (tokens_from (marks t) 0)) l a l'
   pub line : (f : Form) (out out' : List ℕ) (a : Number) → Written f r d out a out' → Fills (written f t) out a out'
   pub copy : (b e : ℕ) (out out' : List ℕ) (a : Number) → no_range b e (count t) ≡ false → Withholds r d b e out a out'
@@ -75,28 +72,28 @@ pub record PaddedTable : Type 0 where
   -- and a reader, given room, lays down the sentence that listed rows hold of the line
   pub same_sentence : (f : Form) (x : List ℕ) (s : Sentence) (d c : Buffers) (a : Answer) (w e g : List ℕ) → read f x ≡ sentence s
       → room_for (record_of s) d ≡ true → ReadDoes (read f x) d a c → Lists s w e g
-      → (a ≡ answer.Sentence (record_of s)) × (spell (record_of s) c ≡ listed_of (record_of s) c s w e g)
+      → (a ≡ Ok (record_of s)) × (spell (record_of s) c ≡ listed_of (record_of s) c s w e g)
   -- every sentence has listed rows
   pub rows_listed : (s : Sentence) → Lists s (row_ends_of 0 (rows s)) (tag_ends_of 0 (tags_of (rows s))) (bytes_of (tags_of (rows s)))
   -- `reset_tags` refuses by 14 before 11, and by 11 where one of the lists of cells is too short
   pub reset_columns : (r : Record) (d e : Buffers) (s : Sentence) (c : ℕ) (a : Answer) → Holds r d s → TagsReset r d c a e → 4096 < c
-      → a ≡ answer.Refused (refusal 14 c)
+      → a ≡ Err (refusal 14 c)
   pub reset_lacks : (r : Record) (d e : Buffers) (s : Sentence) (c : ℕ) (a : Answer) → Holds r d s → TagsReset r d c a e → c ≤ 4096
-      → (length d.cell_starts_buf < count s * c) ⊎ (length d.cell_lengths_buf < count s * c) → a ≡ answer.Refused (refusal 11 0)
+      → (length d.cell_starts_buf < count s * c) ⊎ (length d.cell_lengths_buf < count s * c) → a ≡ Err (refusal 11 0)
   -- the conversion holds 2,048 cells: a line that has more is refused by 11, whatever the room for its line, and one that has not is served
-  pub overfull : (reader writer : ℕ) (x out out' : List ℕ) (at : ℕ) (a : Converted) (s : Sentence)
+  pub overfull : (reader writer : ℕ) (x out out' : List ℕ) (at : ℕ) (a : Number) (s : Sentence)
       → unknown_forms reader writer ≡ false → out_of_range (length out) at ≡ false
-      → Converts (λ (c : Converted). c) (conversion reader writer x (length out) at) at out a out'
-      → read (form_of reader) x ≡ sentence s → 2048 < count s * s.columns → (a ≡ converted.Refused (refusal 11 0)) × (out' ≡ out)
-  pub fitting : (reader writer : ℕ) (x out out' : List ℕ) (at : ℕ) (a : Converted) (s : Sentence)
+      → Converts (λ (c : Number). c) (conversion reader writer x (length out) at) at out a out'
+      → read (form_of reader) x ≡ sentence s → 2048 < count s * s.columns → (a ≡ Err (refusal 11 0)) × (out' ≡ out)
+  pub fitting : (reader writer : ℕ) (x out out' : List ℕ) (at : ℕ) (a : Number) (s : Sentence)
       → unknown_forms reader writer ≡ false → out_of_range (length out) at ≡ false
-      → Converts (λ (c : Converted). c) (conversion reader writer x (length out) at) at out a out'
+      → Converts (λ (c : Number). c) (conversion reader writer x (length out) at) at out a out'
       → read (form_of reader) x ≡ sentence s → count s * s.columns ≤ 2048 → length (written (form_of writer) s) ≤ length out - at
-      → (a ≡ converted.Wrote (at + length (written (form_of writer) s))) × (out' ≡ take at out ++ over (written (form_of writer) s) (drop at out))
+      → (a ≡ Ok (at + length (written (form_of writer) s))) × (out' ≡ take at out ++ over (written (form_of writer) s) (drop at out))
   -- a line of at most 4,096 bytes that it wrote in the line's own form, or in the partial form, it reads back, and writes to itself
-  pub reads_back : (reader writer : ℕ) (x u out out' buf buf' : List ℕ) (at end p : ℕ) (a : Converted) (s : Sentence)
+  pub reads_back : (reader writer : ℕ) (x u out out' buf buf' : List ℕ) (at end p : ℕ) (a : Number) (s : Sentence)
       → (form_of reader ≡ form_of writer) ⊎ (form_of writer ≡ partial) → read (form_of reader) x ≡ sentence s → u ≡ written (form_of writer) s
-      → Converts (λ (c : Converted). c) (conversion reader writer x (length out) at) at out (converted.Wrote end) out'
+      → Converts (λ (c : Number). c) (conversion reader writer x (length out) at) at out (Ok end) out'
       → length u ≤ 4096 → out_of_range (length buf) p ≡ false → length u ≤ length buf - p
-      → Converts (λ (c : Converted). c) (conversion writer writer u (length buf) p) p buf a buf'
-      → (a ≡ converted.Wrote (p + length u)) × (buf' ≡ take p buf ++ over u (drop p buf))
+      → Converts (λ (c : Number). c) (conversion writer writer u (length buf) p) p buf a buf'
+      → (a ≡ Ok (p + length u)) × (buf' ≡ take p buf ++ over u (drop p buf))

@@ -1,4 +1,5 @@
 -- The host's number fits 64 bits, and tells two answers apart. Assumes nothing.
+use Rattle.std.specs.Prelude.{Ok, Err}
 use Prim.Native.Nat.{ℕ, ◌-◌, ◌^◌, ◌≤◌, ◌<◌}
 use native.Mathlib.Omega.{arith}
 use mathlib.Core.Path.{◌≡◌, refl, sym, ap, ◌∙◌}
@@ -16,13 +17,13 @@ use Rattle.sentence.specs.declared.Form.{Form}
 use Rattle.sentence.specs.Forms.{form_of}
 use Rattle.sentence.specs.Reading.{at, start, Run, whole, stopped, run, over, next, Parsed, parsed, gather, Result, sentence, refused, built, placed, read}
 use Rattle.sentence.specs.Writing.{written}
-use Rattle.sentence.specs.Refusals.{refusal_code, verdict, host_order}
+use Rattle.sentence.proofs.Reasons.{reason_apart}
+use Rattle.sentence.specs.Refusals.{number, refusal_code, verdict, host_order}
 use Rattle.sentence.proofs.Shape.{read_formed}
 use Rattle.convert_buffers.specs.Between.{Outcome, writes, refuses, overfull, between, Converts}
 use Rattle.convert.specs.Convert.{unknown_forms, out_of_range, conversion}
 use Rattle.exports.specs.Exports.{code_of}
-use Rattle.convert_buffers.specs.declared.Converted.{Converted}
-use Rattle.convert_buffers.specs.declared.Converted.TheVariants.{Wrote, Refused}
+use Rattle.sheet.specs.Answers.{Number}
 use Rattle.convert_buffers.proofs.Outcomes.{was_refused}
 use Rattle.exports.proofs.Lengths.{written_small}
 
@@ -70,36 +71,37 @@ between_small unknown outside f g room x = on (read f x) refl (read_near f x)
         (λ _. if_cases Small (overfull s) _ _ (λ _. omega arith)
         (λ _. if_cases Small (ltb room (length (written g s))) _ _ (λ _. written_small s (read_formed f x s e).0 g) (λ _. tt))))
 
-pub small_place : (reader writer : ℕ) (x : List ℕ) (size place : ℕ) {out end : List ℕ} {r : Converted} {q : Refusal}
-    → Converts (λ (c : Converted). c) (conversion reader writer x size place) place out r end → r ≡ Refused q → q.place < 2 ^ 32
+pub small_place : (reader writer : ℕ) (x : List ℕ) (size place : ℕ) {out end : List ℕ} {r : Number} {q : Refusal}
+    → Converts (λ (c : Number). c) (conversion reader writer x size place) place out r end → r ≡ Err q → q.place < 2 ^ 32
 unfolding conversion
 small_place reader writer x size place p e =
     let o = was_refused (conversion reader writer x size place) place (sym e ∙ p.answer) in
     rw o at (between_small (unknown_forms reader writer) (out_of_range size place) (form_of reader) (form_of writer) (size - place) x)
 
 -- ---- the code
-module _ (reader writer : ℕ) (x : List ℕ) (size place : ℕ) {out end : List ℕ} {r : Converted}
-    (p : Converts (λ (c : Converted). c) (conversion reader writer x size place) place out r end) where
-  pub code_wrote : {e : ℕ} → r ≡ Wrote e → Converts code_of (conversion reader writer x size place) place out e end
+module _ (reader writer : ℕ) (x : List ℕ) (size place : ℕ) {out end : List ℕ} {r : Number}
+    (p : Converts (λ (c : Number). c) (conversion reader writer x size place) place out r end) where
+  pub code_wrote : {e : ℕ} → r ≡ Ok e → Converts code_of (conversion reader writer x size place) place out e end
   unfolding code_of
   code_wrote q = record { answer = ap code_of (sym q ∙ p.answer); output = p.output }
 
-  pub code_refused : {q : Refusal} {c : ℕ} → r ≡ Refused q → c ≡ refusal_code q → Converts code_of (conversion reader writer x size place) place out c end
+  pub code_refused : {q : Refusal} {c : ℕ} → r ≡ Err q → c ≡ refusal_code q → Converts code_of (conversion reader writer x size place) place out c end
   unfolding code_of
   code_refused {q} e i = record { answer = i ∙ ap code_of (sym e ∙ p.answer); output = p.output }
 
 -- end places and refusal numbers as they occur
-abbrev pub Ordinary : Converted → Type 0
-Ordinary (Wrote e) = e < 2 ^ 63
-Ordinary (Refused r) = r.number < 256
+abbrev pub Ordinary : Number → Type 0
+Ordinary (Ok e) = e < 2 ^ 63
+Ordinary (Err r) = number r < 256
 
 -- no two of them have one code
-pub codes_apart : (a b : Converted) → Ordinary a → Ordinary b → code_of a ≡ code_of b → a ≡ b
+pub codes_apart : (a b : Number) → Ordinary a → Ordinary b → code_of a ≡ code_of b → a ≡ b
 unfolding code_of refusal_code
-codes_apart (Wrote d) (Wrote e) h k q = ap Wrote q
-codes_apart (Wrote d) (Refused r) h k q = absurd (omega arith)
-codes_apart (Refused r) (Wrote e) h k q = absurd (omega arith)
-codes_apart (Refused r) (Refused s) h k q =
-    let n : r.number ≡ s.number = omega arith in
+codes_apart (Ok d) (Ok e) h k q = ap Ok q
+codes_apart (Ok d) (Err r) h k q = absurd (omega arith)
+codes_apart (Err r) (Ok e) h k q = absurd (omega arith)
+codes_apart (Err r) (Err s) h k q =
+    let n : number r ≡ number s = omega arith in
     let p : r.place ≡ s.place = omega arith in
-    λ i. Refused (record { number = n i; place = p i })
+    let m : r.reason ≡ s.reason = reason_apart _ _ n in
+    λ i. Err (record { reason = m i; place = p i })

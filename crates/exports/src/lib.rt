@@ -1,31 +1,30 @@
 // The host's calls: a number's type, a line converted, a line read into lent buffers, a sheet written, its withheld copy, its key, a step of the token
-// cursor. Each answers one number; a refusal is 2^63 plus 256 times its place plus its number.
+// cursor. Each answers one number; a refusal is 2^63 plus 256 times its place plus its number. Forms are numbers, records five, and buffers come one by
+// one, as C gives them.
 #![tactic(auto)]
 
-ghost use Rattle.std.specs.Prelude.{◌≡◌, ◌≤◌, length};
+ghost use Rattle.std.specs.Prelude.{◌≡◌, ◌≤◌, length, Ok, OnOk};
 ghost use Rattle.laws.specs.Put.{over};
 ghost use Rattle.types.specs.TypeOf.{type_of};
-ghost use Rattle.sentence.specs.Reading.{Annotated};
 ghost use Rattle.sheet.specs.Layout.{lent_after, lent_before};
-ghost use Rattle.tokens.specs.declared.Next.TheVariants.{Is};
-ghost use Rattle.write.specs.Answers.{Written};
+ghost use Rattle.sheet.specs.Views.{held, contents, SameRoom};
+ghost use Rattle.read_load.specs.Load.{Does};
 ghost use Rattle.convert_buffers.specs.Between.{Converts};
 ghost use Rattle.convert.specs.Convert.{conversion};
-ghost use Rattle.exports.specs.Exports.{code_of, numbers_of, ReadTold, NearAnswer, HostReads, record_in, number_code};
-ghost use Rattle.exports.specs.Exports.{NearNumber, HostWrites, nearest, nearest_in, HostWithholds, HostKeys, Tells, NearNext, HostSteps};
+ghost use Rattle.exports.specs.Exports.{NearIn, code_of, numbers_of, ReadTold, host_answer, host_leaves, HostReads, record_in, number_code};
+ghost use Rattle.exports.specs.Exports.{LineWritten, HostWrites, nearest, nearest_in, HostWithholds, HostKeys, Tells, HostSteps};
 
-use convert_buffers::Converted;
 use sentence::unchecked::refusal_code;
-use sentence::{Form, NO_FORM, Refusal};
-use sheet::{Answer, Number, Record};
-use tokens::{Next, Step};
+use sentence::{Form, Refusal};
+use sheet::{Buffers, Record, Sheet};
+use tokens::Step;
 use types::CharacterType;
 
 // The type of any number: 1 to 6, and 6 for one that is no character. Nothing is refused.
 pub fn ighdelmur_get_type(c: u32) -> u64
     ensures { result ≡ type_of c }
 {
-    CharacterType::get_type(c) as u64
+    u64::from(CharacterType::get_type(c).code())
 }
 
 // Reads a line in the form `reader` (0 raw, 1 tokenized, 2 partial) and writes it in the form `writer` (1 or 2) into the output, behind the bytes
@@ -35,8 +34,8 @@ pub fn ighdelmur_convert(reader: u32, writer: u32, line: &[u8], out: &mut [u8], 
         out.new }
 {
     match convert::convert(reader, writer, line, out, at) {
-        Converted::Wrote(e) => e as u64,
-        Converted::Refused(r) => refusal_code(r),
+        Ok(e) => e as u64,
+        Err(r) => refusal_code(r),
     }
 }
 
@@ -53,17 +52,35 @@ fn store(r: Record, numbers: &mut [u64])
 }
 
 // Tells what a reader answered: 0 and the numbers of the sentence, or the refusal.
-fn tell_read(answer: Answer, numbers: &mut [u64]) -> u64
-    requires { (5 ≤ length numbers.old) × NearAnswer answer }
+fn tell_read(answer: Result<Record, Refusal>, numbers: &mut [u64]) -> u64
+    requires { OnOk answer (5 ≤ length numbers.old) × NearIn answer }
     ensures { ReadTold answer numbers.old result numbers.new }
 {
     match answer {
-        Answer::Refused(q) => refusal_code(q),
-        Answer::Sentence(r) => {
+        Err(refusal) => refusal_code(refusal),
+        Ok(r) => {
             store(r, numbers);
             0
         }
     }
+}
+
+// Reads a line in a form by its number, for a host with room for so many numbers.
+fn read_line(
+    form: u32,
+    room: usize,
+    line: &[u8],
+    buffers: &mut Buffers<'_>,
+) -> Result<Record, Refusal>
+    ensures reads { Does (host_answer form line.now (contents buffers.old) room) (host_leaves form line.now (contents buffers.old) room) result
+        (contents buffers.new) }
+    ensures same_room { SameRoom buffers.old buffers.new }
+{
+    let form = Form::try_from(form)?;
+    if room < 5 {
+        return Err(Refusal::outside(0));
+    }
+    read_load::load(form, line, buffers)
 }
 
 // Reads a line in a form (0 raw, 1 tokenized, 2 partial) into lent buffers: 0, and N, B, columns, cells and G in the first five numbers. 16 is the
@@ -84,83 +101,45 @@ pub fn ighdelmur_read(
     ensures { HostReads form line.now (lent_before text.old types.old boundaries.old char_pos.old byte_pos.old cell_starts.old cell_lengths.old tag_bytes.old)
         numbers.old result (lent_after text.new types.new boundaries.new char_pos.new byte_pos.new cell_starts.new cell_lengths.new tag_bytes.new) numbers.new }
 {
-    if Form::no_reader(form) {
-        return refusal_code(NO_FORM);
-    }
-    if numbers.len() < 5 {
-        return refusal_code(Refusal::outside(0));
-    }
-    let answer = read_load::load(
-        Form::of(form),
+    let room = numbers.len();
+    let answer = read_line(
+        form,
+        room,
         line,
-        text,
-        types,
-        boundaries,
-        char_pos,
-        byte_pos,
-        cell_starts,
-        cell_lengths,
-        tag_bytes,
+        &mut Buffers {
+            text,
+            types,
+            boundaries,
+            char_pos,
+            byte_pos,
+            cell_starts,
+            cell_lengths,
+            tag_bytes,
+        },
     );
     tell_read(answer, numbers)
 }
 
-// Writes a sheet in one of the two annotated forms.
-fn write_as(
-    form: Form,
-    r: Record,
-    text: &[u8],
-    types: &[u8],
-    boundaries: &[u8],
-    char_pos: &[u16],
-    byte_pos: &[u16],
-    cell_starts: &[u16],
-    cell_lengths: &[u16],
-    tag_bytes: &[u8],
-    out: &mut [u8],
-) -> Number
-    requires { Annotated form }
-    ensures { Written form r (lent_before text.now types.now boundaries.now char_pos.now byte_pos.now cell_starts.now cell_lengths.now tag_bytes.now)
-        out.old result out.new }
+// Writes a sheet in a form by its number.
+fn write_line(form: u32, sheet: &Sheet<'_>, out: &mut [u8]) -> Result<usize, Refusal>
+    ensures { LineWritten form sheet.now.record (held sheet.now) out.old result out.new }
 {
-    match form {
+    match Form::to_write(form)? {
         // it is no form to write, and is refused before
-        Form::Raw => Number::Is(0),
-        Form::Tokenized => write::write_tokenized_text(
-            r,
-            text,
-            types,
-            boundaries,
-            char_pos,
-            byte_pos,
-            cell_starts,
-            cell_lengths,
-            tag_bytes,
-            out,
-        ),
-        Form::Partial => write::write_partial_annotation_text(
-            r,
-            text,
-            types,
-            boundaries,
-            char_pos,
-            byte_pos,
-            cell_starts,
-            cell_lengths,
-            tag_bytes,
-            out,
-        ),
+        Form::Raw => Ok(0),
+        Form::Tokenized => write::write_tokenized_text(sheet, out),
+        Form::Partial => write::write_partial_annotation_text(sheet, out),
     }
 }
 
 // Tells what a writer answered: the length, or the refusal.
-fn tell_number(answer: Number) -> u64
-    requires { NearNumber answer }
+fn tell_number(answer: Result<usize, Refusal>) -> u64
+    requires { NearIn answer }
     ensures { result ≡ number_code answer }
 {
     match answer {
-        Number::Is(n) => n as u64,
-        Number::Refused(q) => refusal_code(q),
+        Ok(n) => n as u64,
+        Err(q) => refusal_code(q),
     }
 }
 
@@ -185,12 +164,8 @@ pub fn ighdelmur_write(
     ensures { HostWrites form (record_in n b columns cells g)
         (lent_before text.now types.now boundaries.now char_pos.now byte_pos.now cell_starts.now cell_lengths.now tag_bytes.now) out.old result out.new }
 {
-    if Form::no_writer(form) {
-        return refusal_code(NO_FORM);
-    }
-    let answer = write_as(
-        Form::of(form),
-        Record {
+    let sheet = Sheet {
+        record: Record {
             n,
             b,
             columns,
@@ -205,8 +180,8 @@ pub fn ighdelmur_write(
         cell_starts,
         cell_lengths,
         tag_bytes,
-        out,
-    );
+    };
+    let answer = write_line(form, &sheet, out);
     tell_number(answer)
 }
 
@@ -214,20 +189,17 @@ pub fn ighdelmur_write(
 fn nearest(place: usize) -> usize
     ensures { result ≡ nearest place }
 {
-    if place < 4294967295 {
-        return place;
-    }
-    4294967295
+    place.min(4294967295)
 }
 
 // An answer with its refusal at such a place.
-fn nearest_in(answer: Number) -> Number
+fn nearest_in(answer: Result<usize, Refusal>) -> Result<usize, Refusal>
     ensures { result ≡ nearest_in answer }
 {
     match answer {
-        Number::Is(n) => Number::Is(n),
-        Number::Refused(q) => Number::Refused(Refusal {
-            number: q.number,
+        Ok(n) => Ok(n),
+        Err(q) => Err(Refusal {
+            reason: q.reason,
             place: nearest(q.place),
         }),
     }
@@ -257,8 +229,8 @@ pub fn ighdelmur_withhold(
         (lent_before text.now types.now boundaries.now char_pos.now byte_pos.now cell_starts.now cell_lengths.now tag_bytes.now) start end out.old result
         out.new }
 {
-    let answer = write::write_withheld_text(
-        Record {
+    let sheet = Sheet {
+        record: Record {
             n,
             b,
             columns,
@@ -273,10 +245,8 @@ pub fn ighdelmur_withhold(
         cell_starts,
         cell_lengths,
         tag_bytes,
-        start,
-        end,
-        out,
-    );
+    };
+    let answer = write::write_withheld_text(&sheet, start, end, out);
     tell_number(nearest_in(answer))
 }
 
@@ -300,8 +270,8 @@ pub fn ighdelmur_key(
     ensures { HostKeys (record_in n b columns cells g)
         (lent_before text.now types.now boundaries.now char_pos.now byte_pos.now cell_starts.now cell_lengths.now tag_bytes.now) out.old result out.new }
 {
-    let answer = write::note_key(
-        Record {
+    let sheet = Sheet {
+        record: Record {
             n,
             b,
             columns,
@@ -316,19 +286,20 @@ pub fn ighdelmur_key(
         cell_starts,
         cell_lengths,
         tag_bytes,
-        out,
-    );
+    };
+    let answer = write::note_key(&sheet, out);
     tell_number(answer)
 }
 
 // Tells a step: 1 and the token's start and end, or 0 and where the cursor stands; 14 for a span of fewer numbers than two.
 fn tell_step(step: Step, span: &mut [u64]) -> u64
-    ensures { Tells (Is step) span.old result span.new }
+    ensures { Tells (Ok step) span.old result span.new }
 {
     if span.len() < 2 {
         return refusal_code(Refusal::outside(0));
     }
     match step {
+        // Casts, since the two are u16 of a token and a usize below: one way for all three.
         Step::Serves(t) => {
             span[0] = t.start as u64;
             span[1] = t.end as u64;
@@ -342,13 +313,13 @@ fn tell_step(step: Step, span: &mut [u64]) -> u64
 }
 
 // The same of a step on a sheet, which may be refused.
-fn tell_next(next: Next, span: &mut [u64]) -> u64
-    requires { NearNext next }
+fn tell_next(next: Result<Step, Refusal>, span: &mut [u64]) -> u64
+    requires { NearIn next }
     ensures { Tells next span.old result span.new }
 {
     match next {
-        Next::Is(step) => tell_step(step, span),
-        Next::Refused(q) => refusal_code(q),
+        Ok(step) => tell_step(step, span),
+        Err(q) => refusal_code(q),
     }
 }
 
@@ -374,8 +345,8 @@ pub fn ighdelmur_next_token(
     ensures { HostSteps (record_in n b columns cells g)
         (lent_before text.now types.now boundaries.now char_pos.now byte_pos.now cell_starts.now cell_lengths.now tag_bytes.now) p span.old result span.new }
 {
-    let next = tokens::next_token(
-        Record {
+    let sheet = Sheet {
+        record: Record {
             n,
             b,
             columns,
@@ -390,7 +361,7 @@ pub fn ighdelmur_next_token(
         cell_starts,
         cell_lengths,
         tag_bytes,
-        p,
-    );
+    };
+    let next = tokens::next_token(&sheet, p);
     tell_next(next, span)
 }

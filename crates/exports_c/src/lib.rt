@@ -1,4 +1,5 @@
-// The host's calls under the names that C links: each calls the function of that name of `exports`, and states its clause again.
+// The host's calls under the names that C links: each calls the function of that name of `exports`, and states its clause again. Numbers and slices come
+// as C gives them.
 #![tactic(auto)]
 
 ghost use Rattle.std.specs.Prelude.{◌≡◌, length};

@@ -1,25 +1,24 @@
 -- What the look-ups' proofs need of a sheet. Assumes nothing.
+use Rattle.std.specs.Prelude.{None, Ok, Err}
 use Prim.Native.Nat.{ℕ, zero, suc, ◌+◌, ◌*◌, ◌≤◌, ◌<◌}
 use native.Mathlib.Omega.{arith}
 use mathlib.Core.Path.{◌≡◌, refl, sym, ap, ◌∙◌}
-use mathlib.Core.Bool.{Bool, true, false, not, ◌||◌}
+use mathlib.Core.Bool.{true, false, ◌||◌}
 use mathlib.Core.List.{List, [], ◌∷◌}
 use mathlib.Core.Logic.{inr}
 use native.Mathlib.Nat.{mul-le-mul_right}
-use borrow.Author.Tests.{eq-eqb, ne_eqb, le-ltb, leb-false, not-false}
-use lib.Dec.{leb}
+use borrow.Author.Tests.{eq-eqb, ne_eqb, le-ltb, leb-false, ltb-false}
+use lib.Dec.{leb, ltb}
 use lib.ListN.{length, get_or, take}
 use Rattle.laws.specs.If.{when◌then◌else◌}
 use Rattle.laws.proofs.Facts.{or_is, neither}
 use Rattle.utf8.specs.Utf8.{size}
 use Rattle.utf8.proofs.Codec.{no_bytes}
 use Rattle.sentence.specs.Sentence.{Tag, Sentence, text, rows, char_positions, byte_positions}
-use Rattle.sentence.specs.Refusals.{verdict}
+use Rattle.sentence.specs.Refusals.{refusal, verdict}
+use Rattle.sheet.specs.Answers.{slice_of}
 use Rattle.sheet.specs.Layout.{Buffers, Holds}
 use Rattle.sheet.specs.declared.Record.{Record}
-use Rattle.sheet.specs.declared.Number.{Number}
-use Rattle.sheet.specs.declared.Number.TheVariants as number
-use Rattle.sheet.specs.declared.Slice.TheVariants as slice
 use Rattle.sheet.proofs.Held.{length_starts, byte_pos_held}
 use Rattle.sheet.proofs.Look.{prefix_at, start_is, bounds, char_pos_is, byte_pos_is, byte_pos_small, cell_start_is, cell_length_is, cell_fits, cell_in_row, cell_at}
 use Rattle.lookups.specs.Answers.{start_at, found, str_to_char_pos_of, cell_start, tag_slice, cell}
@@ -28,9 +27,11 @@ use Rattle.lookups.specs.Answers.{start_at, found, str_to_char_pos_of, cell_star
 pub in_table : (n row m column : ℕ) → (leb n row || leb m column) ≡ false → (row < n) × (column < m)
 in_table n row m column h = let k = neither (leb n row) (leb m column) h in (leb-false n row k.0, leb-false m column k.1)
 
--- ---- the answer where the check g was passed
-pub pos_good : (g good : Bool) (s : Sentence) (p : ℕ) (a : Number) → g ≡ good → not g ≡ false → a ≡ str_to_char_pos_of true s p → a ≡ str_to_char_pos_of good s p
-pos_good g good s p a e h f = let k : good ≡ true = sym e ∙ not-false g h in rw k f
+-- ---- a surface that is in the text
+pub in_text : (n start end : ℕ) → (leb end start || ltb n end) ≡ false → (start ≤ n) × (end ≤ n)
+in_text n start end h =
+    let k = neither (leb end start) (ltb n end) h in
+    (omega (arith, leb-false end start k.0, ltb-false n end k.1), ltb-false n end k.1)
 
 -- ---- a number that stands in a list stands at an index
 pub found_at : (l : List ℕ) (i p : ℕ) → i < length l → get_or l i 0 ≡ p → found p l ≡ true
@@ -45,11 +46,11 @@ found_none [] p h = refl
 found_none (q ∷ l) p h = rw (ne_eqb p q (λ e. h 0 (omega arith) (sym e))) (found_none l p (λ i k e. h (suc i) (omega arith) e))
 
 -- ---- a tag that takes no bytes is absent
-tag_empty : (at : ℕ) (t : Tag) → t ≡ [] → slice.Absent ≡ tag_slice at t
+tag_empty : (at : ℕ) (t : Tag) → t ≡ [] → Ok None ≡ tag_slice at t
 unfolding tag_slice
 tag_empty at t e = rw e
 
-tag_some : (at : ℕ) (t : Tag) → (size t ≡ 0 → ⊥) → slice.Bytes at (at + size t) ≡ tag_slice at t
+tag_some : (at : ℕ) (t : Tag) → (size t ≡ 0 → ⊥) → slice_of at (at + size t) ≡ tag_slice at t
 unfolding tag_slice size
 tag_some at [] h = absurd (h refl)
 tag_some at (c ∷ t) h = refl
@@ -68,7 +69,7 @@ module _ {r : Record} {d : Buffers} {s : Sentence} (h : Holds r d s) where
 
   -- a byte position is a character's start where that character starts there
   pub pos_found : (p : ℕ) → p ≤ r.b → get_or d.char_pos_buf (get_or d.byte_pos_buf p 0) 0 ≡ p
-      → number.Is (get_or d.byte_pos_buf p 0) ≡ str_to_char_pos_of true s p
+      → Ok (get_or d.byte_pos_buf p 0) ≡ str_to_char_pos_of true s p
   unfolding str_to_char_pos_of verdict when◌then◌else◌
   pos_found p k e =
       let i = get_or d.byte_pos_buf p 0 in
@@ -80,7 +81,7 @@ module _ {r : Record} {d : Buffers} {s : Sentence} (h : Holds r d s) where
       )
 
   pub pos_inside : (p : ℕ) → p ≤ r.b → (get_or d.char_pos_buf (get_or d.byte_pos_buf p 0) 0 ≡ p → ⊥)
-      → number.Refused (record { number = 14; place = p }) ≡ str_to_char_pos_of true s p
+      → Err (refusal 14 p) ≡ str_to_char_pos_of true s p
   unfolding str_to_char_pos_of verdict when◌then◌else◌
   pos_inside p k e =
       rw (le-ltb (size (text s)) p (omega (arith, bounds h)), found_none (char_positions (text s)) p none)
@@ -109,10 +110,10 @@ module _ {r : Record} {d : Buffers} {s : Sentence} (h : Holds r d s) where
         let m : r.n * r.columns ≤ 16777216 = omega (arith, mul-le-mul_right {m = r.n} {n = 4096} r.columns (omega arith)) in
         (omega arith, omega arith, omega arith)
 
-    pub tag_absent : get_or d.cell_lengths_buf (row * r.columns + column) 0 ≡ 0 → slice.Absent ≡ tag_slice (cell_start (rows s) row column) (cell s row column)
+    pub tag_absent : get_or d.cell_lengths_buf (row * r.columns + column) 0 ≡ 0 → Ok None ≡ tag_slice (cell_start (rows s) row column) (cell s row column)
     tag_absent e = tag_empty _ _ (no_bytes (cell s row column) (sym cell_length_at ∙ e))
 
     pub tag_present : (get_or d.cell_lengths_buf (row * r.columns + column) 0 ≡ 0 → ⊥)
-        → slice.Bytes (get_or d.cell_starts_buf (row * r.columns + column) 0) (get_or d.cell_starts_buf (row * r.columns + column) 0 + get_or d.cell_lengths_buf (row * r.columns + column) 0)
+        → slice_of (get_or d.cell_starts_buf (row * r.columns + column) 0) (get_or d.cell_starts_buf (row * r.columns + column) 0 + get_or d.cell_lengths_buf (row * r.columns + column) 0)
         ≡ tag_slice (cell_start (rows s) row column) (cell s row column)
     tag_present e = rw (cell_start_at, cell_length_at) (tag_some _ (cell s row column) (λ z. e (cell_length_at ∙ z)))

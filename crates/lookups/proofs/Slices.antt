@@ -1,7 +1,8 @@
 -- What the answered slices are: a surface's bytes, and those of a cell of Rust's padded table; each lies within its buffer; positions lead back. Assumes nothing.
+use Rattle.std.specs.Prelude.{Ok, Err}
 use Prim.Native.Nat.{ℕ, zero, suc, ◌+◌, ◌-◌, ◌*◌, ◌≤◌, ◌<◌}
 use native.Mathlib.Omega.{arith}
-use mathlib.Core.Path.{◌≡◌, refl, sym, ◌∙◌}
+use mathlib.Core.Path.{◌≡◌, refl, sym, ap, ◌∙◌}
 use mathlib.Core.Bool.{true, false, not, ◌||◌}
 use mathlib.Core.List.{List, [], ◌∷◌, map}
 use borrow.Author.Tests.{le-ltb, leb-false, ltb-false, not-false}
@@ -15,9 +16,8 @@ use Rattle.sentence.specs.Sentence.{Tag, Sentence, text, rows, count, char_posit
 use Rattle.sentence.specs.Writing.{surface}
 use Rattle.sentence.specs.Refusals.{verdict, sheet_order}
 use Rattle.sheet.specs.declared.Record.{Record}
-use Rattle.sheet.specs.declared.Number.TheVariants as number
-use Rattle.sheet.specs.declared.Slice.{Slice}
-use Rattle.sheet.specs.declared.Slice.TheVariants as slice
+use Rattle.sheet.specs.declared.Span.{Span}
+use Rattle.sheet.specs.Answers.{Slice, slice_of}
 use Rattle.sheet.specs.Layout.{Buffers, Holds, spell}
 use Rattle.sheet.specs.Check.{is_sheet}
 use Rattle.sheet.proofs.Held.{length_starts}
@@ -38,7 +38,7 @@ cell_of_table s row column h =
     mapped (r ∷ rs) (suc i) k = mapped rs i (omega arith)
 
 -- a character's byte position leads back to it
-pub positions_back : (s : Sentence) (i : ℕ) → i ≤ length (text s) → str_to_char_pos_of true s (start_at s i) ≡ number.Is i
+pub positions_back : (s : Sentence) (i : ℕ) → i ≤ length (text s) → str_to_char_pos_of true s (start_at s i) ≡ Ok i
 unfolding str_to_char_pos_of verdict when◌then◌else◌
 positions_back s i h =
     let p : start_at s i ≡ size (take i (text s)) = start_is 0 (text s) i h ∙ omega arith in
@@ -77,33 +77,40 @@ module _ {r : Record} {d : Buffers} {s : Sentence} (h : Holds r d s) where
       (rw (← b, ← t) (omega (arith, bounds h)), rw (← b, ← t) (cell_stretch h j i))
 
 -- ---- an answered slice lies within its buffer
-apart : (p q : ℕ) (x : Refusal) → slice.Refused x ≡ slice.Bytes p q → ⊥
+-- slices that are equal start at one byte, and end at one
+same_parts : {b e p q : ℕ} → slice_of b e ≡ slice_of p q → (b ≡ p) × (e ≡ q)
+same_parts {b} {e} {p} {q} h =
+    let s : ◌≡◌ {A = Span} (record { start = b; end = e }) (record { start = p; end = q }) = cc in
+    (ap (λ (x : Span). x.start) s, ap (λ (x : Span). x.end) s)
+
+apart : (p q : ℕ) (x : Refusal) → Err x ≡ slice_of p q → ⊥
 apart p q x e = let z : ◌≡◌ {A = ℕ} 0 1 = cc in omega arith
 
-pub tag_bounds : (at : ℕ) (t : Tag) (p q : ℕ) → tag_slice at t ≡ slice.Bytes p q → (p ≡ at) × (q ≡ at + size t) × (t ≡ [] → ⊥)
+pub tag_bounds : (at : ℕ) (t : Tag) (p q : ℕ) → tag_slice at t ≡ slice_of p q → (p ≡ at) × (q ≡ at + size t) × (t ≡ [] → ⊥)
 unfolding tag_slice
 tag_bounds at [] p q e = absurd (let z : ◌≡◌ {A = ℕ} 0 1 = cc in omega arith)
-tag_bounds at (c ∷ t) p q e = (cc, cc, λ z. let y : ◌≡◌ {A = ℕ} 0 1 = cc in omega arith)
+tag_bounds at (c ∷ t) p q e =
+    let k = same_parts e in
+    (sym k.0, sym k.1, λ z. let y : ◌≡◌ {A = ℕ} 0 1 = cc in omega arith)
 
-pub surface_within : (r : Record) (d : Buffers) (b e : ℕ) (a : Slice) (p q : ℕ) → a ≡ surface_at (is_sheet r d) (spell r d) b e → a ≡ slice.Bytes p q
+pub surface_within : (r : Record) (d : Buffers) (b e : ℕ) (a : Slice) (p q : ℕ) → a ≡ surface_at (is_sheet r d) (spell r d) b e → a ≡ slice_of p q
     → (p ≤ q) × (q ≤ length d.text_buf)
 unfolding surface_at
 surface_within r d b e a p q f g =
     let s = spell r d in
-    let k = passed slice.Refused (slice.Bytes p q) (apart p q) (sheet_order (not (is_sheet r d)) (leb e b || ltb (count s) e) b false 0) (surface_slice s b e) (sym f ∙ g) in
+    let k = passed Err (slice_of p q) (apart p q) (sheet_order (not (is_sheet r d)) (leb e b || ltb (count s) e) b false 0) (surface_slice s b e) (sym f ∙ g) in
     let h = is_sheet_lem r d (not-false _ k.0.0) in
     let o = neither (leb e b) (ltb (count s) e) k.0.1.0 in
-    let x : start_at s b ≡ p = cc k.1 in
-    let y : start_at s e ≡ q = cc k.1 in
-    rw (← x, ← y) (surface_fits h b e (omega (arith, leb-false e b o.0)) (omega (arith, ltb-false (count s) e o.1, bounds h)))
+    let n = same_parts k.1 in
+    rw (← n.0, ← n.1) (surface_fits h b e (omega (arith, leb-false e b o.0)) (omega (arith, ltb-false (count s) e o.1, bounds h)))
 
-pub tag_within : (r : Record) (d : Buffers) (row column : ℕ) (a : Slice) (p q : ℕ) → a ≡ tag_at (is_sheet r d) (spell r d) row column → a ≡ slice.Bytes p q
+pub tag_within : (r : Record) (d : Buffers) (row column : ℕ) (a : Slice) (p q : ℕ) → a ≡ tag_at (is_sheet r d) (spell r d) row column → a ≡ slice_of p q
     → (p ≤ q) × (q ≤ length d.tag_bytes_buf)
 unfolding tag_at
 tag_within r d row column a p q f g =
     let s = spell r d in
     let t = tag_slice (cell_start (rows s) row column) (cell s row column) in
-    let k = passed slice.Refused (slice.Bytes p q) (apart p q) (sheet_order (not (is_sheet r d)) (leb (count s) row || leb s.columns column) row false 0) t (sym f ∙ g) in
+    let k = passed Err (slice_of p q) (apart p q) (sheet_order (not (is_sheet r d)) (leb (count s) row || leb s.columns column) row false 0) t (sym f ∙ g) in
     let h = is_sheet_lem r d (not-false _ k.0.0) in
     let o = neither (leb (count s) row) (leb s.columns column) k.0.1.0 in
     let z = tag_bounds (cell_start (rows s) row column) (cell s row column) p q k.1 in

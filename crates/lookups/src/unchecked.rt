@@ -1,132 +1,64 @@
 // The look-ups for those who have checked the sheet.
-ghost use Rattle.std.specs.Prelude.{◌≡◌, true, ◌-◌, ◌≤◌, ◌<◌};
+ghost use Rattle.std.specs.Prelude.{◌≡◌, true, ◌-◌, ◌≤◌, ◌<◌, Ok, Some};
 ghost use Rattle.sentence.specs.Sentence.{rows};
-ghost use Rattle.sheet.specs.Layout.{spell, Sheet, lent, lent_before};
+ghost use Rattle.sheet.specs.Views.{spelled, Valid};
 ghost use Rattle.lookups.specs.Answers.{start_at, str_to_char_pos_of, mark_at, tag_slice, cell_start, cell, surface_slice};
 
 use sentence::Refusal;
-use sheet::{Number, Record, Slice};
+use sheet::{Sheet, Span};
 
 // The byte position of a character.
-pub fn char_to_str_pos(
-    r: Record,
-    text: &[u8],
-    types: &[u8],
-    boundaries: &[u8],
-    char_pos: &[u16],
-    byte_pos: &[u16],
-    cell_starts: &[u16],
-    cell_lengths: &[u16],
-    tag_bytes: &[u8],
-    i: usize,
-) -> usize
-    requires { Sheet r (lent text.now types.now boundaries.now char_pos.now byte_pos.now cell_starts.now cell_lengths.now tag_bytes.now) × (i ≤ r.n) }
-    ensures { result ≡ start_at (spell r
-        (lent_before text.now types.now boundaries.now char_pos.now byte_pos.now cell_starts.now cell_lengths.now tag_bytes.now)) i }
+pub fn char_to_str_pos(sheet: &Sheet<'_>, i: usize) -> usize
+    requires { Valid sheet.now × (i ≤ sheet.now.record.n) }
+    ensures { result ≡ start_at (spelled sheet.now) i }
 {
-    char_pos[i] as usize
+    usize::from(sheet.char_pos[i])
 }
 
 // The character of a byte position, or 14 inside a character.
-pub fn str_to_char_pos(
-    r: Record,
-    text: &[u8],
-    types: &[u8],
-    boundaries: &[u8],
-    char_pos: &[u16],
-    byte_pos: &[u16],
-    cell_starts: &[u16],
-    cell_lengths: &[u16],
-    tag_bytes: &[u8],
-    p: usize,
-) -> Number
-    requires { Sheet r (lent text.now types.now boundaries.now char_pos.now byte_pos.now cell_starts.now cell_lengths.now tag_bytes.now) × (p ≤ r.b) }
-    ensures { result ≡ str_to_char_pos_of true
-        (spell r (lent_before text.now types.now boundaries.now char_pos.now byte_pos.now cell_starts.now cell_lengths.now tag_bytes.now)) p }
+pub fn str_to_char_pos(sheet: &Sheet<'_>, p: usize) -> Result<usize, Refusal>
+    requires { Valid sheet.now × (p ≤ sheet.now.record.b) }
+    ensures { result ≡ str_to_char_pos_of true (spelled sheet.now) p }
 {
-    let i = byte_pos[p] as usize;
-    if char_pos[i] as usize == p {
-        return Number::Is(i);
+    let i = usize::from(sheet.byte_pos[p]);
+    if usize::from(sheet.char_pos[i]) == p {
+        return Ok(i);
     }
-    Number::Refused(Refusal::outside(p))
+    Err(Refusal::outside(p))
 }
 
 // The number of a boundary.
-pub fn boundary(
-    r: Record,
-    text: &[u8],
-    types: &[u8],
-    boundaries: &[u8],
-    char_pos: &[u16],
-    byte_pos: &[u16],
-    cell_starts: &[u16],
-    cell_lengths: &[u16],
-    tag_bytes: &[u8],
-    i: usize,
-) -> usize
-    requires { Sheet r (lent text.now types.now boundaries.now char_pos.now byte_pos.now cell_starts.now cell_lengths.now tag_bytes.now) × (i < r.n - 1) }
-    ensures { result ≡ mark_at (spell r
-        (lent_before text.now types.now boundaries.now char_pos.now byte_pos.now cell_starts.now cell_lengths.now tag_bytes.now)) i }
+pub fn boundary(sheet: &Sheet<'_>, i: usize) -> usize
+    requires { Valid sheet.now × (i < sheet.now.record.n - 1) }
+    ensures { result ≡ mark_at (spelled sheet.now) i }
 {
-    boundaries[i] as usize
+    usize::from(sheet.boundaries[i])
 }
 
-// The slice of a tag.
-pub fn tag(
-    r: Record,
-    text: &[u8],
-    types: &[u8],
-    boundaries: &[u8],
-    char_pos: &[u16],
-    byte_pos: &[u16],
-    cell_starts: &[u16],
-    cell_lengths: &[u16],
-    tag_bytes: &[u8],
-    row: usize,
-    column: usize,
-) -> Slice
-    requires { Sheet r (lent text.now types.now boundaries.now char_pos.now byte_pos.now cell_starts.now cell_lengths.now tag_bytes.now)
-        × (row < r.n)
-        × (column < r.columns) }
-    ensures { result ≡ tag_slice
-        (cell_start (rows (spell r
-        (lent_before text.now types.now boundaries.now char_pos.now byte_pos.now cell_starts.now cell_lengths.now tag_bytes.now))) row column)
-        (cell (spell r (lent_before text.now types.now boundaries.now char_pos.now byte_pos.now cell_starts.now cell_lengths.now tag_bytes.now)) row column) }
+// The slice of a tag; an absent one has none.
+pub fn tag(sheet: &Sheet<'_>, row: usize, column: usize) -> Option<Span>
+    requires { Valid sheet.now × (row < sheet.now.record.n) × (column < sheet.now.record.columns) }
+    ensures { Ok result ≡ tag_slice (cell_start (rows (spelled sheet.now)) row column) (cell (spelled sheet.now) row column) }
 {
-    let j = row * r.columns + column;
-    let start = cell_starts[j] as usize;
-    let len = cell_lengths[j] as usize;
+    let j = row * sheet.record.columns + column;
+    let start = usize::from(sheet.cell_starts[j]);
+    let len = usize::from(sheet.cell_lengths[j]);
     if len == 0 {
-        return Slice::Absent;
+        return None;
     }
-    Slice::Bytes {
+    Some(Span {
         start,
         end: start + len,
-    }
+    })
 }
 
 // The slice of a surface.
-pub fn surface(
-    r: Record,
-    text: &[u8],
-    types: &[u8],
-    boundaries: &[u8],
-    char_pos: &[u16],
-    byte_pos: &[u16],
-    cell_starts: &[u16],
-    cell_lengths: &[u16],
-    tag_bytes: &[u8],
-    start: usize,
-    end: usize,
-) -> Slice
-    requires { Sheet r (lent text.now types.now boundaries.now char_pos.now byte_pos.now cell_starts.now cell_lengths.now tag_bytes.now) × (start ≤ r.n) ×
-        (end ≤ r.n) }
-    ensures { result ≡ surface_slice
-        (spell r (lent_before text.now types.now boundaries.now char_pos.now byte_pos.now cell_starts.now cell_lengths.now tag_bytes.now)) start
-        end }
+pub fn surface(sheet: &Sheet<'_>, start: usize, end: usize) -> Span
+    requires { Valid sheet.now × (start ≤ sheet.now.record.n) × (end ≤ sheet.now.record.n) }
+    ensures { Ok (Some result) ≡ surface_slice (spelled sheet.now) start end }
 {
-    Slice::Bytes {
-        start: char_pos[start] as usize,
-        end: char_pos[end] as usize,
+    Span {
+        start: usize::from(sheet.char_pos[start]),
+        end: usize::from(sheet.char_pos[end]),
     }
 }

@@ -1,4 +1,3 @@
-pub mod Acts
 pub mod Bounds
 pub mod Rests
 pub mod Totals

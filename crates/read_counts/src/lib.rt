@@ -15,11 +15,13 @@ pub struct Counts {
     pub columns: usize,
     pub g: usize,
     pub tags: u32,
+    // No `Option` of the two: `opening` and `grows`, by which the counts are defined, speak of each.
     pub long: u16,
     pub tag: bool,
 }
 
 impl Counts {
+    #[tactic(auto, unfolding(crate::specs::Counts::nothing))]
     pub fn new() -> Self
         ensures { result ≡ nothing }
     {

@@ -1,102 +1,76 @@
 // One act counted, of counts that are no larger than a line.
-ghost use Rattle.std.specs.Prelude.{◌≡◌, ◌≤◌, max};
-ghost use Rattle.read_state.specs.Flags.{act_of};
-ghost use Rattle.read_counts.specs.Counts.{Small, opened, letters, opening, grows, tally_by, counted};
+ghost use Rattle.std.specs.Prelude.{◌≡◌, ◌≤◌, ℕ};
+ghost use Rattle.read_state.specs.States.{act_of};
+ghost use Rattle.read_counts.specs.Counts.{Small, letters, opening, grows, tally_by, counted};
 
 use crate::Counts;
-use read_state::{Act, Stepped};
+use read_state::Act;
 use sheet::Record;
 
-// How many tags are open: one or none.
-pub fn opened(tag: bool) -> u32
-    ensures { result ≡ opened tag }
-{
-    if tag { 1 } else { 0 }
-}
-
-// A character of the text.
-fn letter(k: Counts, len: usize) -> Counts
-    requires { Small k 4096 × (len ≤ 4) }
-    ensures { result ≡ letters len k }
-{
-    Counts {
-        n: k.n + 1,
-        b: k.b + len,
-        columns: k.columns,
-        g: k.g,
-        tags: 0,
-        long: 0,
-        tag: false,
+impl Counts {
+    // A character of the text.
+    #[tactic(auto, unfolding(crate::specs::Counts::letters))]
+    fn letter(&mut self, len: usize)
+        requires { Small self.old 4096 × (len ≤ 4) }
+        ensures { self.new ≡ letters len self.old }
+    {
+        self.n += 1;
+        self.b += len;
+        self.tags = 0;
+        self.long = 0;
+        self.tag = false;
     }
-}
 
-fn max(a: usize, b: usize) -> usize
-    ensures { result ≡ max a b }
-{
-    if a < b { b } else { a }
-}
-
-// A tag begins.
-fn opens(k: Counts) -> Counts
-    requires { Small k 4096 }
-    ensures { result ≡ opening k }
-{
-    let tags = k.tags + opened(k.tag);
-    Counts {
-        n: k.n,
-        b: k.b,
-        columns: max(k.columns, (tags + 1) as usize),
-        g: k.g,
-        tags,
-        long: 0,
-        tag: true,
+    // A tag begins.
+    #[tactic(auto, unfolding(crate::specs::Counts::opening, crate::specs::Counts::opened))]
+    fn opens(&mut self)
+        requires { Small self.old 4096 }
+        ensures { self.new ≡ opening self.old }
+    {
+        self.tags += u32::from(self.tag);
+        self.columns = usize::max(self.columns, self.tags as usize + 1);
+        self.long = 0;
+        self.tag = true;
     }
-}
 
-// A character of the open tag.
-fn of_tag(k: Counts, len: usize) -> Counts
-    requires { Small k 4096 × (len ≤ 4) }
-    ensures { result ≡ grows k.tag len k }
-{
-    if k.tag {
-        Counts {
-            n: k.n,
-            b: k.b,
-            columns: k.columns,
-            g: k.g + len,
-            tags: k.tags,
-            long: k.long + len as u16,
-            tag: true,
+    // A character of the open tag.
+    #[tactic(auto, unfolding(crate::specs::Counts::grows))]
+    fn of_tag(&mut self, len: usize)
+        requires { Small self.old 4096 × (len ≤ 4) }
+        ensures { self.new ≡ grows self.old.tag len self.old }
+    {
+        if self.tag {
+            self.g += len;
+            self.long += len as u16;
         }
-    } else {
-        k
     }
-}
 
-// An act whose character has this many bytes.
-pub fn tally(k: Counts, s: Stepped, len: usize) -> Counts
-    requires { Small k 4096 × (len ≤ 4) }
-    ensures { result ≡ tally_by len (act_of s) k }
-{
-    let act = s.act;
-    match act {
-        Act::Skip => k,
-        Act::Letter => letter(k, len),
-        Act::Opens => opens(k),
-        Act::OfTag => of_tag(k, len),
+    // An act whose character has this many bytes.
+    #[tactic(auto, unfolding(crate::specs::Counts::tally_by))]
+    pub fn tally(&mut self, act: Act, len: usize)
+        requires { Small self.old 4096 × (len ≤ 4) }
+        ensures { (c : ℕ) → self.new ≡ tally_by len (act_of c act) self.old }
+    {
+        match act {
+            Act::Skip => {}
+            Act::Letter(_) => self.letter(len),
+            Act::Opens => self.opens(),
+            Act::OfTag => self.of_tag(len),
+        }
     }
-}
 
-// The record of what was counted.
-pub fn total(k: Counts) -> Record
-    requires { Small k 4096 }
-    ensures { result ≡ counted k }
-{
-    Record {
-        n: k.n,
-        b: k.b,
-        columns: k.columns,
-        cells: k.n * k.columns,
-        g: k.g,
+    // The record of what was counted.
+    #[tactic(auto, using(crate::proofs::Bounds::cells_few), unfolding(crate::specs::Counts::counted))]
+    pub fn total(self) -> Record
+        requires { Small self 4096 }
+        ensures { result ≡ counted self }
+    {
+        Record {
+            n: self.n,
+            b: self.b,
+            columns: self.columns,
+            cells: self.n * self.columns,
+            g: self.g,
+        }
     }
 }

@@ -13,7 +13,7 @@ use Rattle.sentence.specs.Sentence.{Tag, Mark, Sentence, code, rows, row_bytes, 
 use Rattle.sentence.specs.Reading as reading
 use Rattle.sentence.specs.Reading.{at, start, Act, skip, letter, opens, of_tag, whole, run, next, Parsed, parsed, gather, built, sentence}
 use Rattle.sheet.specs.Eight.{Which, pick, Every, Each}
-use Rattle.sheet.specs.Layout.{Buffers, buffers, Same, record_of, room_for, cells_of, bytes_of, lay, laid}
+use Rattle.sheet.specs.Layout.{Buffers, Same, record_of, room_for, cells_of, bytes_of, lay, laid}
 use Rattle.sheet.proofs.Eights.{in_order, every, one, pick_pairwise}
 use Rattle.sheet.proofs.Exact.{has_room}
 use Rattle.sheet.proofs.Held.{fronts_long}
@@ -22,7 +22,7 @@ use Rattle.read_counts.specs.declared.Counts.{Counts}
 use Rattle.read_counts.specs.Counts.{Small, opened, nothing, bytes, letters, opening, grows, tally_by, tally}
 use Rattle.read_counts.proofs.Rests.{letters_in, rows_in, Fresh, run_fresh}
 use Rattle.read_counts.proofs.Totals.{held, widest, widest_less, widest_tags}
-use Rattle.read_stores.specs.Stores.{later, spot, place, open_cell, absent_cells, row_cells, kept, on_letter, cells_at, tag_byte, Store, text_store, types_store, boundaries_store, char_pos_store, byte_pos_store, cell_starts_store, cell_lengths_store, tag_bytes_store, stores, StoredIn, Stored, Room, Finishing, Finished}
+use Rattle.read_stores.specs.Stores.{later, spot, place, open_cell, absent_cells, row_cells, kept, on_letter, cells_at, tag_byte, Store, text_store, types_store, boundaries_store, char_pos_store, byte_pos_store, cell_starts_store, cell_lengths_store, tag_bytes_store, stores, Stored, Room, Finishing}
 use Rattle.read_stores.proofs.Copies.{put_append}
 use Rattle.read_fill.specs.Emits.{emits}
 use Rattle.read_fill.proofs.Texts.{rest_of, bounds, text_emits, types_emits, boundaries_emits, char_pos_emits, byte_pos_emits}
@@ -245,7 +245,7 @@ module _ (a : Act) (l : List Act) (k : Counts) (s : Sentence) (d₀ d : Buffers)
 
 -- ---- the line's end
 module _ (k : Counts) (s : Sentence) (d₀ d : Buffers) (g : Goings [] k s d₀ d) where
-  pub goings_finish : Small k 4096 → s.columns ≤ 4096 → Finishing s.columns k d.char_pos_buf d.byte_pos_buf d.cell_starts_buf d.cell_lengths_buf
+  pub goings_finish : Small k 4096 → s.columns ≤ 4096 → Finishing s.columns k d
   unfolding emits char_pos_store byte_pos_store cell_starts_store cell_lengths_store
   goings_finish h w = record {
     char_pos_room = omega (arith, g.every_store.char_pos_is.room);
@@ -258,14 +258,8 @@ module _ (k : Counts) (s : Sentence) (d₀ d : Buffers) (g : Goings [] k s d₀ 
     };
   }
 
-  -- the buffers, four of them with what the end stores
-  abbrev left : List ℕ → List ℕ → List ℕ → List ℕ → Buffers
-  left c b w e = buffers d.text_buf d.types_buf d.boundaries_buf c b w e d.tag_bytes_buf
-
-  pub goings_done : {c b w e : List ℕ} → Roomy s d₀ → Finished s.columns k d.char_pos_buf d.byte_pos_buf d.cell_starts_buf d.cell_lengths_buf c b w e
-      → Same (laid s d₀) (left c b w e)
-  unfolding laid text_store types_store boundaries_store char_pos_store byte_pos_store cell_starts_store cell_lengths_store tag_bytes_store
-  goings_done {c} {b} {w} {e} r f =
-      let ended : Every (λ (i : Which). StoredIn (λ (p : Store). p.last k) k (pick (stores s.columns) i) (pick d i) (pick (left c b w e) i)) =
-      in_order refl refl refl f.char_pos_is f.byte_pos_is f.cell_starts_is f.cell_lengths_is refl in
-      every (λ i. rw (pick_pairwise over (lay s) d₀ i) (going_done (pick (stores s.columns) i) k _ _ _ _ (one g.every_store i) (one ended i) (one r i)))
+  pub goings_done : (e : Buffers) → Roomy s d₀ → Stored s.columns (λ (p : Store). p.last k) k d e → Same (laid s d₀) e
+  unfolding laid
+  goings_done e r f =
+      every (λ i.
+      rw (pick_pairwise over (lay s) d₀ i) (going_done (pick (stores s.columns) i) k _ _ _ _ (one g.every_store i) (one f.stored i) (one r i)))

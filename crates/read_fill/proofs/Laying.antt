@@ -1,12 +1,12 @@
 -- What the loop over a line keeps: its acts that are left store what is left of each buffer. Assumes nothing.
-use Prim.Native.Nat.{ℕ, ◌+◌, ◌≤◌, ◌<◌}
+use Prim.Native.Nat.{ℕ, ◌+◌, ◌-◌, ◌≤◌, ◌<◌}
 use mathlib.Core.Path.{◌≡◌, refl, sym, subst, ◌∙◌}
 use mathlib.Core.Bool.{Bool, true, false}
 use mathlib.Core.List.{List, [], ◌∷◌}
 use native.Mathlib.Omega.{arith}
 use borrow.Author.Tests.{ltb-false}
 use lib.Dec.{ltb}
-use lib.ListN.{length, take, drop, drop_of_length-le}
+use lib.ListN.{length, take, drop, drop_of_length-le, length-take, length-drop}
 use Rattle.laws.specs.If.{when◌then◌else◌}
 use Rattle.utf8.specs.Utf8.{encode, size, decode_at, walk, valid_prefix, values, scalars, is_char}
 use Rattle.utf8.specs.declared.Decoded.{Decoded}
@@ -19,18 +19,20 @@ use Rattle.sentence.specs.Reading.{Place, at, start, behind, in_tag, gap, escape
 use Rattle.sentence.specs.Reading as reading
 use Rattle.sentence.proofs.Shape.{ActOf, StepOf, read_formed}
 use Rattle.sheet.specs.Eight.{Each}
-use Rattle.sheet.specs.Layout.{Buffers, buffers, Same, record_of, room_for}
+use Rattle.sheet.specs.Layout.{Buffers, Same, record_of, room_for}
 use Rattle.sheet.proofs.Eights.{every, one}
 use Rattle.read_state.specs.declared.State.{State}
-use Rattle.read_state.specs.declared.Stepped.{Stepped}
-use Rattle.read_state.specs.Flags.{state_of, flags, act_of, stepped}
+use Rattle.sentence.specs.declared.Reason.{Reason}
+use Rattle.std.specs.Prelude as prelude
+use Rattle.read_state.specs.declared.Act as acts
+use Rattle.read_state.specs.States.{state_of, state_in, act_of, Steps}
 use Rattle.read_state.proofs.Enums.{state_back}
-use Rattle.read_state.proofs.Advances.{advance_of, Goes, advanced}
+use Rattle.read_state.proofs.Steps.{advance_of, advanced, refused as off}
 use Rattle.read_counts.specs.declared.Counts.{Counts}
 use Rattle.read_counts.specs.Counts.{Small, nothing, tally_by, tally}
 use Rattle.read_counts.proofs.Bounds.{nothing_small, small_more, tally_small}
 use Rattle.read_counts.proofs.Spans.{Span, span, tally_width}
-use Rattle.read_stores.specs.Stores.{Store, Stored, Bytes, Turning, Finishing, Finished}
+use Rattle.read_stores.specs.Stores.{Store, Stored, Bytes, Turning, Finishing}
 use Rattle.read_fill.specs.Fill.{Fits, filled}
 use Rattle.read_fill.proofs.Going.{emitted, Goings, roomy, goings_start, goings_narrow, goings_room, goings_turn, goings_finish, goings_done}
 
@@ -75,10 +77,10 @@ pub record Laying (f : Form) (c : ℕ) (x : List ℕ) (σ : State) (k : Counts) 
   pub runs : run f (state_of σ) (scalars (drop p x)) ≡ whole left
   pub goings : Goings left k s d₀ d
 
-pub lay_start : (f : Form) (c : ℕ) (x : List ℕ) (σ : State) (k : Counts) (d : Buffers) → Fits (read f x) c d → σ ≡ flags (at start) → k ≡ nothing → Laying f c x σ k 0 d d
+pub lay_start : (f : Form) (c : ℕ) (x : List ℕ) (σ : State) (k : Counts) (d : Buffers) → Fits (read f x) c d → σ ≡ state_in (at start) → k ≡ nothing → Laying f c x σ k 0 d d
 lay_start f c x σ k d = on (read f x) refl
   where
-    on : (r : Result) → read f x ≡ r → Fits r c d → σ ≡ flags (at start) → k ≡ nothing → Laying f c x σ k 0 d d
+    on : (r : Result) → read f x ≡ r → Fits r c d → σ ≡ state_in (at start) → k ≡ nothing → Laying f c x σ k 0 d d
     on (sentence s) e h i j =
         let r = reads_of f x s e in
         record {
@@ -137,64 +139,71 @@ module _ {f : Form} {c : ℕ} {x : List ℕ} {σ : State} {k : Counts} {p : ℕ}
 
   module _ {v n : ℕ} (q : decode_at x p ≡ Char v n) where
     -- it is not refused
-    lay_goes : Goes (advance f (state_of σ) v)
+    lay_goes : (e : ℕ) → advance f (state_of σ) v ≡ stop e → ⊥
     unfolding run follow
-    lay_goes = on (advance f (state_of σ) v) refl
-      where
-        on : (s : Step) → advance f (state_of σ) v ≡ s → Goes s
-        on (go τ a) w = tt
-        on (stop e) w =
-            let r : stopped e (size (v ∷ scalars (drop (p + n) x))) ≡ whole h.left = rw (left_char x p v n q, w) at h.runs in
-            let z : ◌≡◌ {A = ℕ} 0 1 = cc in
-            omega arith
+    lay_goes e w =
+        let r : stopped e (size (v ∷ scalars (drop (p + n) x))) ≡ whole h.left = rw (left_char x p v n q, w) at h.runs in
+        let z : ◌≡◌ {A = ℕ} 0 1 = cc in
+        omega arith
 
     pub lay_some : v ≡ 0 → ⊥
     unfolding advance when◌then◌else◌
-    lay_some z = rw z at lay_goes
+    lay_some z = lay_goes 4 (rw z)
 
-    module _ {g : Stepped} (g₁ : g ≡ stepped v (advance f (state_of σ) v)) where
-      steps : advance f (state_of σ) v ≡ go (state_of g.state) (act_of g)
-      steps = advanced f (state_of σ) v g g₁ lay_goes
+    module _ (τ : State) (r : prelude.Result acts.Act Reason) (w : Steps (advance f (state_of σ) v) σ τ r) where
+      pub lay_on : (o : Reason) → r ≡ prelude.Err o → ⊥
+      lay_on o i = let z = off v σ τ r f o w i in lay_goes z.number z.is
 
-      act_of_lem : ActOf v (act_of g)
-      act_of_lem = subst (StepOf v) steps (advance_of f (state_of σ) v)
+      module _ {a : acts.Act} (i : r ≡ prelude.Ok a) where
+        steps : advance f (state_of σ) v ≡ go (state_of τ) (act_of v a)
+        steps = advanced v σ τ r f a w i
 
-      goes : Went (act_of g) (run f (state_of g.state) (scalars (drop (p + n) x))) h.left
-      unfolding run follow
-      goes = went (act_of g) _ h.left (rw (left_char x p v n q, steps) at h.runs)
+        act_of_lem : ActOf v (act_of v a)
+        act_of_lem = subst (StepOf v) steps (advance_of f (state_of σ) v)
 
-      parts : Goings (act_of g ∷ goes.rest) k h.s d₀ d
-      parts = subst (λ (l : List Act). Goings l k h.s d₀ d) goes.is h.goings
+        goes : Went (act_of v a) (run f (state_of τ) (scalars (drop (p + n) x))) h.left
+        unfolding run follow
+        goes = went (act_of v a) _ h.left (rw (left_char x p v n q, steps) at h.runs)
 
-      pub lay_turning : Turning c (act_of g) k x p n d
-      unfolding decode_at
-      lay_turning = record {
-        small = lay_small;
-        narrow = record { few = omega (arith, h.stride, lay_formed.columns_fit); fits = omega (arith, h.stride, goings_narrow (act_of g) goes.rest k h.s d₀ d parts) };
-        some = (len_ok x p v n q).0;
-        few = (len_ok x p v n q).1;
-        within = char_within x p v n h.within q;
-        bytes = act_bytes (act_of g) v (take n (drop p x)) act_of_lem (encode_decode (drop p x) v n q).bytes;
-        room = rw h.stride (goings_room (act_of g) goes.rest k h.s d₀ d parts);
-      }
+        parts : Goings (act_of v a ∷ goes.rest) k h.s d₀ d
+        parts = subst (λ (l : List Act). Goings l k h.s d₀ d) goes.is h.goings
 
-      pub lay_go : {k' : Counts} {e : Buffers} → Stored c (λ (o : Store). o.emit (act_of g) k) k d e → k' ≡ tally_by n (act_of g) k → Laying f c x g.state k' (p + n) d₀ e
-      lay_go {k'} {e} w i =
-          let j : k' ≡ tally (act_of g) k = i ∙ rw (width_at x p v n q) (tally_width (act_of g) v k act_of_lem) in
-          record {
-            s = h.s;
-            left = goes.rest;
-            reads = h.reads;
-            stride = h.stride;
-            room = h.room;
-            short = h.short;
-            valid = h.valid;
-            within = char_within x p v n h.within q;
-            passed = passed_char x p v n _ (sym q) refl h.passed;
-            small = rw i (tally_small n p (act_of g) k (omega (arith, len_ok x p v n q)) h.small);
-            runs = goes.runs;
-            goings = rw j (goings_turn (act_of g) goes.rest k h.s d₀ d parts e (rw h.stride at w));
-          }
+        pub lay_turning : Turning c (act_of v a) k (take (p + n - p) (drop p x)) d
+        unfolding decode_at
+        lay_turning =
+            let u : p + n - p ≡ n = omega arith in
+            let s : Span x p n = span x p v n h.within h.short q in
+            let l : length (take n (drop p x)) ≡ n = simp (length-take, length-drop) (omega (arith, s)) in
+            rw u (record {
+              small = lay_small;
+              narrow = record {
+                few = omega (arith, h.stride, lay_formed.columns_fit);
+                fits = omega (arith, h.stride, goings_narrow (act_of v a) goes.rest k h.s d₀ d parts);
+              };
+              some = omega (arith, l, s);
+              few = omega (arith, l, s);
+              bytes = act_bytes (act_of v a) v (take n (drop p x)) act_of_lem (encode_decode (drop p x) v n q).bytes;
+              room = rw h.stride (goings_room (act_of v a) goes.rest k h.s d₀ d parts);
+            })
+
+        pub lay_go : {k' : Counts} {e : Buffers} → Stored c (λ (o : Store). o.emit (act_of v a) k) k d e → ((m : ℕ) → k' ≡ tally_by n (act_of m a) k)
+            → Laying f c x τ k' (p + n) d₀ e
+        lay_go {k'} {e} w i =
+            let j : k' ≡ tally (act_of v a) k = i v ∙ rw (width_at x p v n q) (tally_width (act_of v a) v k act_of_lem) in
+            record {
+              s = h.s;
+              left = goes.rest;
+              reads = h.reads;
+              stride = h.stride;
+              room = h.room;
+              short = h.short;
+              valid = h.valid;
+              within = char_within x p v n h.within q;
+              passed = passed_char x p v n _ (sym q) refl h.passed;
+              small = rw (i v) (tally_small n p (act_of v a) k (omega (arith, len_ok x p v n q)) h.small);
+              runs = goes.runs;
+              goings = rw j (goings_turn (act_of v a) goes.rest k h.s d₀ d parts e (rw h.stride at w));
+            }
 
   -- ---- the line's end
   ended : length x ≤ p → h.left ≡ []
@@ -214,13 +223,12 @@ module _ {f : Form} {c : ℕ} {x : List ℕ} {σ : State} {k : Counts} {p : ℕ}
   over : length x ≤ p → Goings [] k h.s d₀ d
   over l = subst (λ (m : List Act). Goings m k h.s d₀ d) (ended l) h.goings
 
-  pub lay_finishing : length x ≤ p → Finishing c k d.char_pos_buf d.byte_pos_buf d.cell_starts_buf d.cell_lengths_buf
+  pub lay_finishing : length x ≤ p → Finishing c k d
   lay_finishing l = rw h.stride (goings_finish k h.s d₀ d (over l) lay_small lay_formed.columns_fit)
 
-  pub lay_done : {q b w e : List ℕ} → length x ≤ p → Finished c k d.char_pos_buf d.byte_pos_buf d.cell_starts_buf d.cell_lengths_buf q b w e
-      → Same (filled (read f x) d₀) (buffers d.text_buf d.types_buf d.boundaries_buf q b w e d.tag_bytes_buf)
+  pub lay_done : {e : Buffers} → length x ≤ p → Stored c (λ (o : Store). o.last k) k d e → Same (filled (read f x) d₀) e
   unfolding filled
-  lay_done l i = rw h.reads (goings_done k h.s d₀ d (over l) (roomy h.s d₀ lay_formed h.room) (rw h.stride at i))
+  lay_done {e} l i = rw h.reads (goings_done k h.s d₀ d (over l) e (roomy h.s d₀ lay_formed h.room) (rw h.stride at i))
 
   -- no buffer changes its length
   pub lay_long : Each (λ x y. length y ≡ length x) d₀ d

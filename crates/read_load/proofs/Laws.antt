@@ -1,4 +1,5 @@
 -- What the contract of a reader comes to. Assumes nothing.
+use Rattle.std.specs.Prelude.{Ok, Err}
 use Prim.Native.Nat.{ℕ}
 use mathlib.Core.Path.{◌≡◌, refl, sym, ◌∙◌}
 use mathlib.Core.Bool.{Bool, true, false}
@@ -17,8 +18,7 @@ use Rattle.sheet.specs.Layout.{Buffers, record_of, laid, Holds}
 use Rattle.sheet.specs.Check.{is_sheet}
 use Rattle.sheet.proofs.Held.{laid_holds}
 use Rattle.sheet.proofs.Exact.{holds_is}
-use Rattle.sheet.specs.declared.Answer.{Answer}
-use Rattle.sheet.specs.declared.Answer.TheVariants as answer
+use Rattle.sheet.specs.Answers.{Answer}
 use Rattle.sheet.specs.declared.Record.{Record}
 use Rattle.read_load.specs.Load.{lacks, Does, read_answer, read_leaves, ReadDoes}
 use Rattle.read_load.proofs.Ways.{order_refused}
@@ -34,27 +34,27 @@ pub record Holding (x : Result) (r : Record) (e : Buffers) : Type 0 where
   pub holds : Holds r e s
   pub is_sheet_lem : is_sheet r e ≡ true
 
-pub holding : (f : Form) (x : List ℕ) (d e : Buffers) (r : Record) → read_answer (read f x) d ≡ answer.Sentence r → e ≡ read_leaves (read f x) d → Holding (read f x) r e
+pub holding : (f : Form) (x : List ℕ) (d e : Buffers) (r : Record) → read_answer (read f x) d ≡ Ok r → e ≡ read_leaves (read f x) d → Holding (read f x) r e
 unfolding read_answer read_leaves reader_order verdict lacks when◌then◌else◌
 holding f x d e r = on (read f x) refl
   where
     laid_down : (s : Sentence) (t : Bool) → read f x ≡ sentence s → lacks d s ≡ t
-        → (when t then answer.Refused (refusal 11 0) else answer.Sentence (record_of s)) ≡ answer.Sentence r → e ≡ (when t then d else laid s d) → Holding (sentence s) r e
+        → (when t then Err (refusal 11 0) else Ok (record_of s)) ≡ Ok r → e ≡ (when t then d else laid s d) → Holding (sentence s) r e
     laid_down s true i l a b = let z : ◌≡◌ {A = ℕ} 0 1 = cc in absurd (omega arith)
     laid_down s false i l a b =
         let q : record_of s ≡ r = cc in
         let h : Holds r e s = rw (b, ← q) (laid_holds s d (read_formed f x s i).0 (not-false _ l)) in
         record { s = s; reads = refl; holds = h; is_sheet_lem = holds_is r e s h }
 
-    on : (q : Result) → read f x ≡ q → read_answer q d ≡ answer.Sentence r → e ≡ read_leaves q d → Holding q r e
+    on : (q : Result) → read f x ≡ q → read_answer q d ≡ Ok r → e ≡ read_leaves q d → Holding q r e
     on (sentence s) i a b = laid_down s (lacks d s) i refl a b
     on (refused n p) i a b = let z : ◌≡◌ {A = ℕ} 0 1 = cc in absurd (omega arith)
 
 -- what a reader leaves where it answers a sentence
-pub read_holds : (f : Form) (x : List ℕ) (d e : Buffers) (a : Answer) (r : Record) → ReadDoes (read f x) d a e → a ≡ answer.Sentence r → Holding (read f x) r e
+pub read_holds : (f : Form) (x : List ℕ) (d e : Buffers) (a : Answer) (r : Record) → ReadDoes (read f x) d a e → a ≡ Ok r → Holding (read f x) r e
 read_holds f x d e a r w i = holding f x d e r (sym w.answer_is ∙ i) (same_is w.buffers_are)
 
 -- a reader that refuses leaves the buffers as they were
-pub read_kept : (x : Result) (d e : Buffers) (a : Answer) (q : Refusal) → ReadDoes x d a e → a ≡ answer.Refused q → e ≡ d
+pub read_kept : (x : Result) (d e : Buffers) (a : Answer) (q : Refusal) → ReadDoes x d a e → a ≡ Err q → e ≡ d
 unfolding read_leaves
 read_kept x d e a q w i = same_is w.buffers_are ∙ order_refused x d q d (sym w.answer_is ∙ i)

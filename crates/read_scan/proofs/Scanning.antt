@@ -1,4 +1,5 @@
 -- What the loop over a line keeps: the run from its state and counts over what is left comes to what the line comes to. Assumes nothing.
+use Rattle.std.specs.Prelude.{Ok, Err}
 use Prim.Native.Nat.{ℕ, ◌+◌, ◌-◌, ◌≤◌, ◌<◌}
 use mathlib.Core.Path.{◌≡◌, refl, sym, ap, subst, ◌∙◌}
 use mathlib.Core.Bool.{Bool, true, false}
@@ -16,26 +17,26 @@ use Rattle.sentence.specs.Sentence.{Sentence}
 use Rattle.sentence.specs.Reading as reading
 use Rattle.sentence.specs.declared.Form.{Form}
 use Rattle.sentence.specs.Reading.{Place, at, escaped, start, behind, in_tag, gap, Act, go, stop, advance, Run, whole, stopped, ending, finish, push, follow, run, over, next, Parsed, parsed, gather, sentence, built, placed, read}
-use Rattle.sentence.specs.Refusals.{refusal}
-use Rattle.sentence.proofs.Shape.{StepOf}
+use Rattle.sentence.specs.Refusals.{reason_of, refusal}
+use Rattle.sentence.proofs.Shape.{ActOf, StepOf}
 use Rattle.sheet.specs.Layout.{record_of}
-use Rattle.sheet.specs.declared.Answer.{Answer}
-use Rattle.sheet.specs.declared.Answer.TheVariants as answer
+use Rattle.sheet.specs.Answers.{Answer}
 use Rattle.sheet.specs.declared.Record.{Record}
 use Rattle.read_state.specs.declared.State.{State}
-use Rattle.read_state.specs.declared.Ended.{Ended}
-use Rattle.read_state.specs.declared.Ended.TheVariants as ends
-use Rattle.read_state.specs.declared.Stepped.{Stepped}
-use Rattle.read_state.specs.Flags.{state_of, flags, act_of, stepped, ended}
+use Rattle.std.specs.Prelude.{Result}
+use Rattle.sentence.specs.declared.Reason.{Reason}
+use Rattle.sentence.specs.declared.Refusal.{Refusal}
+use Rattle.read_state.specs.declared.Act as acts
+use Rattle.read_state.specs.States.{state_of, state_in, act_of, Steps, ended}
 use Rattle.read_state.proofs.Enums.{state_back}
-use Rattle.read_state.proofs.Advances.{advance_of, advanced_by_number, refused_by_number}
+use Rattle.read_state.proofs.Steps.{advance_of, advanced, refused}
 use Rattle.read_counts.specs.declared.Counts.{Counts}
 use Rattle.read_counts.specs.Counts.{Small, nothing, tally_by, tally, tallies, counted}
 use Rattle.read_counts.proofs.Bounds.{nothing_small, small_more, tally_small}
 use Rattle.read_counts.proofs.Rests.{Fresh, run_fresh}
 use Rattle.read_counts.proofs.Totals.{counted_is}
 use Rattle.read_counts.proofs.Spans.{Span, span, tally_width}
-use Rattle.read_scan.specs.Scan.{scanned, told, or_invalid}
+use Rattle.read_scan.specs.Scan.{because, scanned, told, or_invalid}
 use Rattle.read_scan.proofs.Prefixes.{left_size}
 
 -- ---- one act
@@ -45,10 +46,10 @@ told_push n k a (whole l) = refl
 told_push n k a (stopped e left) = refl
 
 -- ---- what is told from the start is what is read
-told_built : (p : Parsed) (r : Record) → Fresh p → ((s : Sentence) → built p ≡ sentence s → r ≡ record_of s) → answer.Sentence r ≡ scanned (built p)
+told_built : (p : Parsed) (r : Record) → Fresh p → ((s : Sentence) → built p ≡ sentence s → r ≡ record_of s) → Ok r ≡ scanned (built p)
 unfolding built scanned
 told_built (parsed t ts n over) r f h = absurd f
-told_built (parsed t ts n (next m s)) r f h = ap answer.Sentence (h _ refl)
+told_built (parsed t ts n (next m s)) r f h = ap Ok (h _ refl)
 
 told_placed : (f : Form) (x : List ℕ) (n : ℕ) → told n nothing (run f (at start) x) ≡ scanned (placed n (run f (at start) x))
 unfolding told placed scanned
@@ -71,7 +72,7 @@ or_same : (x : List ℕ) (a b : Answer) → (length x ≤ valid_prefix x → a �
 unfolding or_invalid when◌then◌else◌
 or_same x a b h = on (ltb (valid_prefix x) (length x)) refl
   where
-    on : (t : Bool) → ltb (valid_prefix x) (length x) ≡ t → (when t then answer.Refused (refusal 2 (valid_prefix x)) else a) ≡ (when t then answer.Refused (refusal 2 (valid_prefix x)) else b)
+    on : (t : Bool) → ltb (valid_prefix x) (length x) ≡ t → (when t then Err (refusal 2 (valid_prefix x)) else a) ≡ (when t then Err (refusal 2 (valid_prefix x)) else b)
     on true e = refl
     on false e = h (ltb-false _ _ e)
 
@@ -86,7 +87,7 @@ pub record Scanning (f : Form) (x : List ℕ) (s : State) (k : Counts) (p : ℕ)
 pub scan_small : {f : Form} {x : List ℕ} {s : State} {k : Counts} {p : ℕ} → Scanning f x s k p → Small k 4096
 scan_small {k} {p} h = small_more p 4096 k (omega (arith, h.short, h.within)) h.small
 
-pub scan_start : (f : Form) (x : List ℕ) (s : State) (k : Counts) → length x ≤ 4096 → s ≡ flags (at start) → k ≡ nothing → Scanning f x s k 0
+pub scan_start : (f : Form) (x : List ℕ) (s : State) (k : Counts) → length x ≤ 4096 → s ≡ state_in (at start) → k ≡ nothing → Scanning f x s k 0
 scan_start f x s k h e g = record {
   short = h;
   within = omega arith;
@@ -100,45 +101,45 @@ module _ {f : Form} {x : List ℕ} {s : State} {k : Counts} {p : ℕ} (h : Scann
   pub stands : {d : Decoded} {v n : ℕ} → d ≡ decode_at x p → d ≡ Char v n → Span x p n
   stands {d} {v} {n} d₁ d₂ = span x p v n h.within h.short (sym d₁ ∙ d₂)
 
-  -- a character that steps the reader
-  pub scan_go : {d : Decoded} {v n : ℕ} {g : Stepped} {k' : Counts}
-      → d ≡ decode_at x p → d ≡ Char v n → g ≡ stepped v (advance f (state_of s) v) → g.number ≤ 0 → k' ≡ tally_by n (act_of g) k
-      → Scanning f x g.state k' (p + n)
-  unfolding run follow
-  scan_go {d} {v} {n} {g} {k'} d₁ d₂ g₁ g₂ e =
-      let q : decode_at x p ≡ Char v n = sym d₁ ∙ d₂ in
-      let w : advance f (state_of s) v ≡ go (state_of g.state) (act_of g) = advanced_by_number f (state_of s) v g g₁ g₂ in
-      let i : k' ≡ tally (act_of g) k = e ∙ rw (width_at x p v n q) (tally_width (act_of g) v k (subst (StepOf v) w (advance_of f (state_of s) v))) in
-      record {
-        short = h.short;
-        within = char_within x p v n h.within q;
-        small = rw e (tally_small n p (act_of g) k (omega (arith, len_ok x p v n q)) h.small);
-        passed = passed_char x p v n d d₁ d₂ h.passed;
-        same = rw i (sym (told_push (length x) k (act_of g) (run f (state_of g.state) (scalars (drop (p + n) x)))) ∙ rw (left_char x p v n q, w) at h.same);
-      }
+  module _ {d : Decoded} {v n : ℕ} (d₁ : d ≡ decode_at x p) (d₂ : d ≡ Char v n) (t : State) (r : Result acts.Act Reason)
+      (w : Steps (advance f (state_of s) v) s t r) where
+    at_char : decode_at x p ≡ Char v n
+    at_char = sym d₁ ∙ d₂
 
-  -- a character that is refused
-  pub scan_stop : {d : Decoded} {v n : ℕ} {g : Stepped} {r : Answer}
-      → d ≡ decode_at x p → d ≡ Char v n → g ≡ stepped v (advance f (state_of s) v) → 0 < g.number → r ≡ or_invalid x (answer.Refused (refusal g.number p))
-      → r ≡ scanned (read f x)
-  unfolding run follow told
-  scan_stop {d} {v} {n} {g} d₁ d₂ g₁ g₂ i =
-      let q : decode_at x p ≡ Char v n = sym d₁ ∙ d₂ in
-      let w : advance f (state_of s) v ≡ stop g.number = refused_by_number f (state_of s) v g g₁ g₂ in
-      i
-      ∙ or_same x _ _ (λ l.
-      let place : p ≡ length x - size (v ∷ scalars (drop (p + n) x)) =
-      omega (arith, ap size (left_char x p v n q), left_size x p h.passed.same h.within l, h.within) in
-      ap (λ (i : ℕ). answer.Refused (refusal g.number i)) place ∙ rw (left_char x p v n q, w) at h.same)
-      ∙ sym (read_told f x h.short)
+    -- a character that steps the reader
+    pub scan_go : {a : acts.Act} {k' : Counts} → r ≡ Ok a → ((m : ℕ) → k' ≡ tally_by n (act_of m a) k) → Scanning f x t k' (p + n)
+    unfolding run follow
+    scan_go {a} {k'} i e =
+        let g : advance f (state_of s) v ≡ go (state_of t) (act_of v a) = advanced v s t r f a w i in
+        let o : ActOf v (act_of v a) = subst (StepOf v) g (advance_of f (state_of s) v) in
+        let j : k' ≡ tally (act_of v a) k = e v ∙ rw (width_at x p v n at_char) (tally_width (act_of v a) v k o) in
+        record {
+          short = h.short;
+          within = char_within x p v n h.within at_char;
+          small = rw (e v) (tally_small n p (act_of v a) k (omega (arith, len_ok x p v n at_char)) h.small);
+          passed = passed_char x p v n d d₁ d₂ h.passed;
+          same = rw j (sym (told_push (length x) k (act_of v a) (run f (state_of t) (scalars (drop (p + n) x)))) ∙ rw (left_char x p v n at_char, g) at h.same);
+        }
+
+    -- a character that is refused
+    pub scan_stop : {q : Reason} {u : Refusal} → r ≡ Err q → Err u ≡ or_invalid x (Err (because q p)) → Err u ≡ scanned (read f x)
+    unfolding run follow told
+    scan_stop {q} {u} i e =
+        let z = refused v s t r f q w i in
+        e
+        ∙ or_same x _ _ (λ l.
+        let place : p ≡ length x - size (v ∷ scalars (drop (p + n) x)) =
+        omega (arith, ap size (left_char x p v n at_char), left_size x p h.passed.same h.within l, h.within) in
+        ap (λ (o : Reason). Err (because o p)) z.reason ∙ ap (λ (m : ℕ). Err (refusal z.number m)) place ∙ rw (left_char x p v n at_char, z.is) at h.same)
+        ∙ sym (read_told f x h.short)
 
   -- what is no character
-  pub scan_bad : {d : Decoded} {r : Answer} → d ≡ decode_at x p → d ≡ Bad → r ≡ answer.Refused (refusal 2 p) → r ≡ scanned (read f x)
+  pub scan_bad : {d : Decoded} {r : Answer} → d ≡ decode_at x p → d ≡ Bad → r ≡ Err (refusal 2 p) → r ≡ scanned (read f x)
   unfolding or_invalid
   scan_bad {d} d₁ d₂ i =
       let e = passed_bad x p d d₁ d₂ h.passed in
       let l = bad_inside x p (sym d₁ ∙ d₂) in
-      i ∙ ap (λ (i : ℕ). answer.Refused (refusal 2 i)) e ∙ sym (if_true _ _ _ (lt-ltb (valid_prefix x) (length x) (omega arith))) ∙ sym (read_told f x h.short)
+      i ∙ ap (λ (i : ℕ). Err (refusal 2 i)) e ∙ sym (if_true _ _ _ (lt-ltb (valid_prefix x) (length x) (omega arith))) ∙ sym (read_told f x h.short)
 
   -- the line's end
   pub scan_end : {d : Decoded} {r : Answer} → d ≡ decode_at x p → d ≡ End → r ≡ told p k (finish f (state_of s)) → r ≡ scanned (read f x)
@@ -154,7 +155,7 @@ module _ {f : Form} {x : List ℕ} {s : State} {k : Counts} {p : ℕ} (h : Scann
       ∙ sym (read_told f x h.short)
 
 -- a line that is too long
-pub scan_long : (f : Form) (x : List ℕ) (r : Answer) → 4096 < length x → r ≡ answer.Refused (refusal 1 4096) → r ≡ scanned (read f x)
+pub scan_long : (f : Form) (x : List ℕ) (r : Answer) → 4096 < length x → r ≡ Err (refusal 1 4096) → r ≡ scanned (read f x)
 unfolding read scanned
 scan_long f x r l i = i ∙ sym (ap scanned (if_true _ _ _ (lt-ltb 4096 (length x) l)))
 
@@ -176,22 +177,23 @@ unfolding finish
 finish_over f (at p) = ending_over f p
 finish_over f (escaped p) = ending_over f p
 
-over_whole : {r : Run} (n : ℕ) (k : Counts) → Over r → ended r ≡ ends.Whole → answer.Sentence (counted k) ≡ told n k r
-unfolding ended told tallies
+over_whole : {r : Run} (n : ℕ) (k : Counts) → Over r → ended r ≡ Ok tt → Ok (counted k) ≡ told n k r
+unfolding told tallies
 over_whole n k all_made e = refl
 over_whole n k none_left e = cc
 
-over_stop : {r : Run} {e : ℕ} (n : ℕ) (k : Counts) → Over r → ended r ≡ ends.Refuse e → answer.Refused (refusal e n) ≡ told n k r
-unfolding ended told
+over_stop : {r : Run} {q : Reason} (n : ℕ) (k : Counts) → Over r → ended r ≡ Err q → Err (because q n) ≡ told n k r
+unfolding told
 over_stop n k all_made e = cc
-over_stop {e} n k none_left i =
+over_stop {q} n k (none_left {e}) i =
     let z : n ≡ n - 0 = omega arith in
-    rw (← z) cc
+    let j : q ≡ reason_of e = cc in
+    rw (← z, j)
 
 -- the premises are as `finished` has them
-module _ (f : Form) (s : State) (n : ℕ) (k : Counts) {t : Ended} (i : t ≡ ended (finish f (state_of s))) where
-  pub told_whole : {r : Record} → t ≡ ends.Whole → r ≡ counted k → answer.Sentence r ≡ told n k (finish f (state_of s))
+module _ (f : Form) (s : State) (n : ℕ) (k : Counts) {t : Result (Unit {0}) Reason} (i : t ≡ ended (finish f (state_of s))) where
+  pub told_whole : {r : Record} → t ≡ Ok tt → r ≡ counted k → Ok r ≡ told n k (finish f (state_of s))
   told_whole e g = rw g (over_whole n k (finish_over f (state_of s)) (sym i ∙ e))
 
-  pub told_stop : {e : ℕ} {r : Answer} → t ≡ ends.Refuse e → r ≡ answer.Refused (refusal e n) → r ≡ told n k (finish f (state_of s))
-  told_stop e g = g ∙ over_stop n k (finish_over f (state_of s)) (sym i ∙ e)
+  pub told_stop : {q : Reason} → t ≡ Err q → Err (because q n) ≡ told n k (finish f (state_of s))
+  told_stop e = over_stop n k (finish_over f (state_of s)) (sym i ∙ e)

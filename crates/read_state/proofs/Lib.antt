@@ -1,4 +1,2 @@
 pub mod Enums
-pub mod Places
 pub mod Steps
-pub mod Advances

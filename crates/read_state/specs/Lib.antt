@@ -1,1 +1,1 @@
-pub mod Flags
+pub mod States

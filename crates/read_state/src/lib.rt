@@ -1,17 +1,18 @@
-// The state of a reader, stepped by value over the characters of a line.
+// The state of a reader, stepped over the characters of a line.
 #![tactic(auto)]
 
 pub mod unchecked;
 
-ghost use Rattle.std.specs.Prelude.{◌≡◌, true, false};
+ghost use Rattle.std.specs.Prelude.{◌≡◌, ℕ, Ok};
 ghost use Rattle.sentence.specs.Sentence.{code};
+ghost use Rattle.sentence.specs.Refusals.{reason_of};
 ghost use Rattle.sentence.specs.declared.Form.TheVariants.{Tokenized as tokenized, Partial as partial};
-ghost use Rattle.sentence.specs.Reading.{mark, slash, back, at, escaped, start, behind, in_tag, go, stop, letter, kind, ordinary, step};
+ghost use Rattle.sentence.specs.Reading.{mark, slash, back, at, start, behind, kind, ordinary, step};
 ghost use Rattle.sentence.specs.Reading.{advance, unfinished, finish};
-ghost use Rattle.read_state.specs.declared.Mark.TheVariants.{None};
-ghost use Rattle.read_state.specs.Flags.{mark_of, place_of, state_of, flags, kind_in, goes, stepped, ended, awaits, literal};
+ghost use Rattle.read_state.specs.declared.Act.TheVariants.{Letter};
+ghost use Rattle.read_state.specs.States.{mark_of, place_of, state_of, state_in, kind_in, awaits, literal, Steps, ended};
 
-use sentence::Form;
+use sentence::{Form, Reason};
 
 // A boundary between two characters.
 #[derive(Clone, Copy)]
@@ -19,6 +20,20 @@ pub enum Mark {
     None,
     Word,
     Unknown,
+}
+
+// The number of a boundary: 0 none, 1 word, 2 unknown.
+impl From<Mark> for u8 {
+    ghost from_gives = { λ m number. number ≡ code (mark_of m) };
+
+    #[tactic(auto, unfolding(sentence::specs::Sentence::code))]
+    fn from(m: Mark) -> Self {
+        match m {
+            Mark::None => 0,
+            Mark::Word => 1,
+            Mark::Unknown => 2,
+        }
+    }
 }
 
 // What a character means where it is not escaped.
@@ -30,92 +45,69 @@ pub enum Kind {
     Plain,
 }
 
-// What a character does: nothing; it is text; it opens a tag; it is of the open tag.
+// What a character does: nothing; it is text, with the boundary before it; it opens a tag; it is of the open tag.
 #[derive(Clone, Copy)]
 pub enum Act {
     Skip,
-    Letter,
+    Letter(Mark),
     Opens,
     OfTag,
 }
 
-// Where a reader stands: behind a backslash, in an open tag, behind a boundary (and which), and whether any text was read.
+// Where a reader stands: before any text, behind a character, in an open tag, behind a boundary.
+#[derive(Clone, Copy)]
+pub enum Place {
+    Start,
+    Behind,
+    InTag,
+    Gap(Mark),
+}
+
+// A reader's place, and whether a backslash makes the next character ordinary.
 #[derive(Clone, Copy)]
 pub struct State {
+    // Each place can stand behind a backslash, so the flag is no part of the place.
     pub escape: bool,
-    pub tag_open: bool,
-    pub prev_space: bool,
-    pub begun: bool,
-    pub mark: Mark,
+    pub place: Place,
 }
 
-// What a step hands back: the next state, what the character does, the boundary before it where it is text, the refusal's number or 0, and the character.
-#[derive(Clone, Copy)]
-pub struct Stepped {
-    pub state: State,
-    pub act: Act,
-    pub mark: Mark,
-    pub number: u8,
-    pub c: u32,
-}
+// As casts, since `From` is no constant function.
+const SPACE: u32 = b' ' as u32;
 
-// What the line's end gives.
-#[derive(Clone, Copy)]
-pub enum Ended {
-    Whole,
-    Refuse(u8),
-}
+const HYPHEN: u32 = b'-' as u32;
 
-impl Mark {
-    // Its number: 0 none, 1 word, 2 unknown.
-    pub fn code(self) -> u8
-        ensures { result ≡ code (mark_of self) }
-    {
-        match self {
-            Mark::None => 0,
-            Mark::Word => 1,
-            Mark::Unknown => 2,
-        }
-    }
-}
+const BAR: u32 = b'|' as u32;
+
+const SLASH: u32 = b'/' as u32;
+
+const BACKSLASH: u32 = b'\\' as u32;
 
 fn tokenized_kind(c: u32) -> Kind
     ensures { result ≡ kind_in (kind tokenized c) }
 {
-    if c == b' ' as u32 {
-        return Kind::Mark(Mark::Word);
+    match c {
+        SPACE => Kind::Mark(Mark::Word),
+        SLASH => Kind::Slash,
+        BACKSLASH => Kind::Back,
+        _ => Kind::Plain,
     }
-    if c == b'/' as u32 {
-        return Kind::Slash;
-    }
-    if c == b'\\' as u32 {
-        return Kind::Back;
-    }
-    Kind::Plain
 }
 
 fn partial_kind(c: u32) -> Kind
     ensures { result ≡ kind_in (kind partial c) }
 {
-    if c == b' ' as u32 {
-        return Kind::Mark(Mark::Unknown);
+    match c {
+        SPACE => Kind::Mark(Mark::Unknown),
+        HYPHEN => Kind::Mark(Mark::None),
+        BAR => Kind::Mark(Mark::Word),
+        SLASH => Kind::Slash,
+        BACKSLASH => Kind::Back,
+        _ => Kind::Plain,
     }
-    if c == b'-' as u32 {
-        return Kind::Mark(Mark::None);
-    }
-    if c == b'|' as u32 {
-        return Kind::Mark(Mark::Word);
-    }
-    if c == b'/' as u32 {
-        return Kind::Slash;
-    }
-    if c == b'\\' as u32 {
-        return Kind::Back;
-    }
-    Kind::Plain
 }
 
 // What a character means in a form.
+#[tactic(auto, unfolding(sentence::specs::Reading::kind))]
 pub fn meaning(form: Form, c: u32) -> Kind
     ensures { result ≡ kind_in (kind form c) }
 {
@@ -126,35 +118,24 @@ pub fn meaning(form: Form, c: u32) -> Kind
     }
 }
 
-// The number of a line that ends behind a boundary.
-fn unfinished(form: Form) -> u8
-    ensures { result ≡ unfinished form }
+// Why a line is refused that ends behind a boundary.
+#[tactic(auto, unfolding(sentence::specs::Reading::unfinished))]
+fn unfinished(form: Form) -> Reason
+    ensures { result ≡ reason_of (unfinished form) }
 {
     match form {
-        Form::Raw => 3,
-        Form::Tokenized => 8,
-        Form::Partial => 10,
+        Form::Raw => Reason::NoCharacter,
+        Form::Tokenized => Reason::TrailingSpace,
+        Form::Partial => Reason::TrailingMark,
     }
 }
 
-impl State {
-    // Before any text.
-    pub fn new() -> Self
-        ensures { result ≡ flags (at start) }
-    {
-        State {
-            escape: false,
-            tag_open: false,
-            prev_space: false,
-            begun: false,
-            mark: Mark::None,
-        }
-    }
-
+impl Place {
+    // A character is awaited: before any text, or behind a boundary.
     fn awaits(self) -> bool
         ensures { result ≡ awaits (place_of self) }
     {
-        !self.begun | self.prev_space
+        matches!(self, Place::Start | Place::Gap(_))
     }
 
     // A character is awaited, and this form takes it literally.
@@ -167,190 +148,109 @@ impl State {
             Form::Partial => self.awaits(),
         }
     }
+}
 
-    // A refusal by its number.
-    fn refused(number: u8, c: u32) -> Stepped
-        ensures { result ≡ stepped c (stop number) }
+impl State {
+    // At a place, and behind no backslash.
+    #[tactic(auto, using(crate::proofs::Enums::place_back))]
+    fn at(place: Place) -> Self
+        ensures { result ≡ state_in (at (place_of place)) }
     {
-        Stepped {
-            state: State::new(),
-            act: Act::Skip,
-            mark: Mark::None,
-            number,
-            c,
+        State {
+            escape: false,
+            place,
         }
+    }
+
+    // Before any text.
+    pub fn new() -> Self
+        ensures { result ≡ state_in (at start) }
+    {
+        State::at(Place::Start)
     }
 
     // A character of the text, with the boundary before it.
-    fn letter(m: Mark, c: u32) -> Stepped
-        ensures { result ≡ stepped c (go (at behind) (letter (mark_of m) c)) }
+    fn letter(&mut self, m: Mark) -> Act
+        ensures { (result ≡ Letter m) × (self.new ≡ state_in (at behind)) }
     {
-        Stepped {
-            state: State {
-                escape: false,
-                tag_open: false,
-                prev_space: false,
-                begun: true,
-                mark: Mark::None,
+        *self = State::at(Place::Behind);
+        Act::Letter(m)
+    }
+
+    // An ordinary character: of the open tag, else text; behind another the partial form has none.
+    #[tactic(auto, using(crate::proofs::Enums::mark_back), unfolding(sentence::specs::Reading::ordinary))]
+    fn ordinary(&mut self, form: Form) -> Result<Act, Reason>
+        ensures { (c : ℕ) → Steps (ordinary form (place_of self.old.place) c) self.old self.new result }
+    {
+        match self.place {
+            Place::Start => Ok(self.letter(Mark::None)),
+            Place::Gap(m) => Ok(self.letter(m)),
+            Place::InTag => {
+                self.escape = false;
+                Ok(Act::OfTag)
+            }
+            Place::Behind => match form {
+                Form::Raw => Ok(self.letter(Mark::Unknown)),
+                Form::Tokenized => Ok(self.letter(Mark::None)),
+                Form::Partial => Err(Reason::BadMark),
             },
-            act: Act::Letter,
-            mark: m,
-            number: 0,
-            c,
         }
-    }
-
-    // The place in an open tag.
-    fn in_tag(act: Act, c: u32) -> Stepped
-        ensures { result ≡ goes (flags (at in_tag)) act None c }
-    {
-        Stepped {
-            state: State {
-                escape: false,
-                tag_open: true,
-                prev_space: false,
-                begun: true,
-                mark: Mark::None,
-            },
-            act,
-            mark: Mark::None,
-            number: 0,
-            c,
-        }
-    }
-
-    // An ordinary character behind another; the partial form has none.
-    fn behind(form: Form, c: u32) -> Stepped
-        ensures { result ≡ stepped c (ordinary form behind c) }
-    {
-        match form {
-            Form::Raw => State::letter(Mark::Unknown, c),
-            Form::Tokenized => State::letter(Mark::None, c),
-            Form::Partial => State::refused(9, c),
-        }
-    }
-
-    // An ordinary character: of the open tag, else text.
-    fn ordinary(self, form: Form, c: u32) -> Stepped
-        ensures { result ≡ stepped c (ordinary form (place_of self) c) }
-    {
-        let m = self.mark;
-        if !self.begun {
-            return State::letter(Mark::None, c);
-        }
-        if self.prev_space {
-            return State::letter(m, c);
-        }
-        if self.tag_open {
-            return State::in_tag(Act::OfTag, c);
-        }
-        State::behind(form, c)
     }
 
     // A plain boundary: none is right where a token begins.
-    fn boundary(self, m: Mark, c: u32) -> Stepped
-        ensures { result ≡ stepped c (step tokenized (at (place_of self)) (mark (mark_of m)) 0) }
+    #[tactic(auto, unfolding(sentence::specs::Reading::step, sentence::specs::Reading::inside, sentence::specs::Reading::opening))]
+    fn boundary(&mut self, m: Mark) -> Result<Act, Reason>
+        ensures { Steps (step tokenized (at (place_of self.old.place)) (mark (mark_of m)) 0) self.old self.new result }
     {
-        if !self.begun {
-            return State::refused(5, c);
-        }
-        if self.prev_space {
-            return State::refused(6, c);
-        }
-        Stepped {
-            state: State {
-                escape: false,
-                tag_open: false,
-                prev_space: true,
-                begun: true,
-                mark: m,
-            },
-            act: Act::Skip,
-            mark: Mark::None,
-            number: 0,
-            c,
+        match self.place {
+            Place::Start => Err(Reason::LeadingSpace),
+            Place::Gap(_) => Err(Reason::SecondSpace),
+            _ => {
+                *self = State::at(Place::Gap(m));
+                Ok(Act::Skip)
+            }
         }
     }
 
     // A plain slash: none is right where a token begins.
-    fn slash(self, c: u32) -> Stepped
-        ensures { result ≡ stepped c (step tokenized (at (place_of self)) slash 0) }
+    #[tactic(auto, unfolding(sentence::specs::Reading::step, sentence::specs::Reading::inside, sentence::specs::Reading::opening))]
+    fn slash(&mut self) -> Result<Act, Reason>
+        ensures { Steps (step tokenized (at (place_of self.old.place)) slash 0) self.old self.new result }
     {
-        if self.awaits() {
-            return State::refused(7, c);
+        if self.place.awaits() {
+            return Err(Reason::StraySlash);
         }
-        State::in_tag(Act::Opens, c)
-    }
-
-    // The same place, behind a backslash.
-    fn escaped(self) -> State
-        ensures { result ≡ flags (escaped (place_of self)) }
-    {
-        let m = self.mark;
-        let begun = self.begun;
-        let prev_space = begun & self.prev_space;
-        if prev_space {
-            return State {
-                escape: true,
-                tag_open: false,
-                prev_space,
-                begun,
-                mark: m,
-            };
-        }
-        State {
-            escape: true,
-            tag_open: begun & self.tag_open,
-            prev_space,
-            begun,
-            mark: Mark::None,
-        }
+        *self = State::at(Place::InTag);
+        Ok(Act::Opens)
     }
 
     // A plain backslash: the next character is ordinary.
-    fn backslash(self, c: u32) -> Stepped
-        ensures { result ≡ stepped c (step tokenized (at (place_of self)) back 0) }
+    fn backslash(&mut self) -> Act
+        ensures { Steps (step tokenized (at (place_of self.old.place)) back 0) self.old self.new (Ok result) }
     {
-        Stepped {
-            state: self.escaped(),
-            act: Act::Skip,
-            mark: Mark::None,
-            number: 0,
-            c,
-        }
+        self.escape = true;
+        Act::Skip
     }
 
-    // One character.
-    pub fn step(self, form: Form, c: u32) -> Stepped
-        ensures { result ≡ stepped c (advance form (state_of self) c) }
+    // One character; a refusal leaves the state as it was.
+    pub fn step(&mut self, form: Form, c: u32) -> Result<Act, Reason>
+        ensures { Steps (advance form (state_of self.old) c) self.old self.new result }
     {
         if c == 0 {
-            return State::refused(4, c);
+            return Err(Reason::Nul);
         }
-        if self.escape {
-            return self.ordinary(form, c);
-        }
-        if self.is_literal(form) {
-            return self.ordinary(form, c);
-        }
-        match meaning(form, c) {
-            Kind::Mark(m) => self.boundary(m, c),
-            Kind::Slash => self.slash(c),
-            Kind::Back => self.backslash(c),
-            Kind::Plain => self.ordinary(form, c),
-        }
+        unchecked::follow(self, form, c)
     }
 
     // The line's end; a lone backslash is dropped.
-    pub fn end(self, form: Form) -> Ended
+    #[tactic(auto, using(crate::proofs::Steps::finish_place), unfolding(sentence::specs::Reading::ending))]
+    pub fn end(self, form: Form) -> Result<(), Reason>
         ensures { result ≡ ended (finish form (state_of self)) }
     {
-        if !self.begun {
-            return Ended::Refuse(3);
+        match self.place {
+            Place::Start => Err(Reason::NoCharacter),
+            Place::Gap(_) => Err(unfinished(form)),
+            _ => Ok(()),
         }
-        if self.prev_space {
-            return Ended::Refuse(unfinished(form));
-        }
-        Ended::Whole
     }
 }

@@ -1,26 +1,24 @@
 // The step of a pass over a line that was read before.
 ghost use Rattle.std.specs.Prelude.{◌≡◌};
 ghost use Rattle.sentence.specs.Reading.{advance};
-ghost use Rattle.read_state.specs.Flags.{state_of, stepped};
+ghost use Rattle.read_state.specs.States.{state_of, Steps};
 
-use crate::{Kind, State, Stepped, meaning};
-use sentence::Form;
+use crate::{Act, Kind, State, meaning};
+use sentence::{Form, Reason};
 
-// One character that is no NUL: the same step, so that each pass has its own compiled into its loop.
-pub fn follow(s: State, form: Form, c: u32) -> Stepped
+// One character that is no NUL, compiled into the loop of each pass; a refusal leaves the state as it was.
+#[inline(always)]
+pub fn follow(s: &mut State, form: Form, c: u32) -> Result<Act, Reason>
     requires { c ≡ 0 → ⊥ }
-    ensures { result ≡ stepped c (advance form (state_of s) c) }
+    ensures { Steps (advance form (state_of s.old) c) s.old s.new result }
 {
-    if s.escape {
-        return s.ordinary(form, c);
-    }
-    if s.is_literal(form) {
-        return s.ordinary(form, c);
+    if s.escape || s.place.is_literal(form) {
+        return s.ordinary(form);
     }
     match meaning(form, c) {
-        Kind::Mark(m) => s.boundary(m, c),
-        Kind::Slash => s.slash(c),
-        Kind::Back => s.backslash(c),
-        Kind::Plain => s.ordinary(form, c),
+        Kind::Mark(m) => s.boundary(m),
+        Kind::Slash => s.slash(),
+        Kind::Back => Ok(s.backslash()),
+        Kind::Plain => s.ordinary(form),
     }
 }

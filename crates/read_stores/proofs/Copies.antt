@@ -5,15 +5,11 @@ use mathlib.Core.Path.{◌≡◌, refl, sym, ap, ◌∙◌}
 use mathlib.Core.Bool.{Bool, true, false}
 use mathlib.Core.List.{List, [], ◌∷◌, ◌++◌}
 use native.Mathlib.Omega.{arith}
-use lib.ListN.{length, get_or, set, take, drop, replicate, length-append, length-set, length-take, length-drop, length-replicate}
-use Rattle.laws.specs.Put.{put, length_put, drop_step}
+use lib.ListN.{length, get_or, set, replicate, length-append, length-set, length-replicate}
+use Rattle.laws.specs.Put.{put, length_put}
 use Rattle.read_counts.specs.declared.Counts.{Counts}
 use Rattle.read_counts.specs.Counts.{Small, opened}
 use Rattle.read_stores.specs.Stores.{later, spot, place, open_cell, absent_cells, row_cells, kept, Narrow}
-
--- ---- a character's bytes
-take_next : (x : List ℕ) (at n : ℕ) → at < length x → take (suc n) (drop at x) ≡ get_or x at 0 ∷ take n (drop (at + 1) x)
-take_next x at n h = rw (drop_step at x h)
 
 next : (n : ℕ) → n + 1 + 1 ≡ n + 2
 next n = omega arith
@@ -21,21 +17,34 @@ next n = omega arith
 next2 : (n : ℕ) → n + 2 + 1 ≡ n + 3
 next2 n = omega arith
 
-module _ (x d : List ℕ) (at b len : ℕ) (h : at + len ≤ length x) where
-  pub copied_one : len ≡ 1 → set d b (get_or x at 0) ≡ put d b (take len (drop at x))
-  copied_one e = rw (e, take_next x at 0 (omega arith))
+-- ---- a character's bytes
+module _ (d : List ℕ) (at : ℕ) where
+  pub copied_one : (x : List ℕ) → length x ≡ 1 → set d at (get_or x 0 0) ≡ put d at x
+  copied_one [] e = cc
+  copied_one (v ∷ []) e = refl
+  copied_one (v ∷ w ∷ x) e = cc
 
-  pub copied_two : len ≡ 2 → set (set d b (get_or x at 0)) (b + 1) (get_or x (at + 1) 0) ≡ put d b (take len (drop at x))
-  copied_two e = rw (e, take_next x at 1 (omega arith), take_next x (at + 1) 0 (omega arith))
+  pub copied_two : (x : List ℕ) → length x ≡ 2 → set (set d at (get_or x 0 0)) (at + 1) (get_or x 1 0) ≡ put d at x
+  copied_two [] e = cc
+  copied_two (v ∷ []) e = cc
+  copied_two (v ∷ w ∷ []) e = refl
+  copied_two (v ∷ w ∷ u ∷ x) e = cc
 
-  pub copied_three : len ≡ 3 → set (set (set d b (get_or x at 0)) (b + 1) (get_or x (at + 1) 0)) (b + 2) (get_or x (at + 2) 0) ≡ put d b (take len (drop at x))
-  copied_three e = rw (e, take_next x at 2 (omega arith), take_next x (at + 1) 1 (omega arith), next at, take_next x (at + 2) 0 (omega arith), next b)
+  pub copied_three : (x : List ℕ) → length x ≡ 3 → set (set (set d at (get_or x 0 0)) (at + 1) (get_or x 1 0)) (at + 2) (get_or x 2 0) ≡ put d at x
+  copied_three [] e = cc
+  copied_three (v ∷ []) e = cc
+  copied_three (v ∷ w ∷ []) e = cc
+  copied_three (v ∷ w ∷ u ∷ []) e = rw (next at)
+  copied_three (v ∷ w ∷ u ∷ t ∷ x) e = cc
 
-  pub copied_four : 1 ≤ len → len ≤ 4 → (len ≡ 1 → ⊥) → (len ≡ 2 → ⊥) → (len ≡ 3 → ⊥)
-      → set (set (set (set d b (get_or x at 0)) (b + 1) (get_or x (at + 1) 0)) (b + 2) (get_or x (at + 2) 0)) (b + 3) (get_or x (at + 3) 0) ≡ put d b (take len (drop at x))
-  copied_four k l e₁ e₂ e₃ =
-      let e : len ≡ 4 = omega arith in
-      rw (e, take_next x at 3 (omega arith), take_next x (at + 1) 2 (omega arith), next at, take_next x (at + 2) 1 (omega arith), next2 at, take_next x (at + 3) 0 (omega arith), next b, next2 b)
+  pub copied_four : (x : List ℕ) → length x ≡ 4
+      → set (set (set (set d at (get_or x 0 0)) (at + 1) (get_or x 1 0)) (at + 2) (get_or x 2 0)) (at + 3) (get_or x 3 0) ≡ put d at x
+  copied_four [] e = cc
+  copied_four (v ∷ []) e = cc
+  copied_four (v ∷ w ∷ []) e = cc
+  copied_four (v ∷ w ∷ u ∷ []) e = cc
+  copied_four (v ∷ w ∷ u ∷ t ∷ []) e = rw (next at, next2 at)
+  copied_four (v ∷ w ∷ u ∷ t ∷ s ∷ x) e = cc
 
 -- ---- a character's number, and 0 at its other bytes
 module _ (d : List ℕ) (n b len : ℕ) where
@@ -55,13 +64,14 @@ module _ (d : List ℕ) (n b len : ℕ) where
       rw (e, next b, next2 b)
 
 -- ---- a value for the character before
-pub later_none : (n v : ℕ) → n ≡ 0 → later n v ≡ []
+pub later_none : (n v : ℕ) → n ≤ 0 → later n v ≡ []
 unfolding later
-later_none n v e = rw e
+later_none zero v h = refl
+later_none (suc n) v h = absurd (omega arith)
 
-pub later_some : (n v : ℕ) → (n ≡ 0 → ⊥) → later n v ≡ v ∷ []
+pub later_some : (n v : ℕ) → 0 < n → later n v ≡ v ∷ []
 unfolding later
-later_some zero v h = absurd (h refl)
+later_some zero v h = absurd (omega arith)
 later_some (suc n) v h = refl
 
 -- ---- a value at each place from m up to n, those before i stored in d of what d₀ was
@@ -105,15 +115,15 @@ module _ (b₀ l₀ b l : List ℕ) (g m n i : ℕ) (r : Absenting b₀ l₀ b l
   absent_lengths h = repeat_done l₀ l m n 0 i h r.lengths
 
 -- ---- room for the stores; the premises are as their places have them
-pub later_fits : (n i m v : ℕ) → (n ≡ 0 → ⊥) → i + length (later n v) ≤ m → i < m
+pub later_fits : (n i m v : ℕ) → 0 < n → i + length (later n v) ≤ m → i < m
 later_fits n i m v h l = omega (arith, ap length (later_some n v h))
 
-pub kept_fits : (t : Bool) (i m n at : ℕ) (x : List ℕ) → at + n ≤ length x → t ≡ true → i + length (kept t (take n (drop at x))) ≤ m → i + n ≤ m
+pub kept_fits : (t : Bool) (i m : ℕ) (x : List ℕ) → t ≡ true → i + length (kept t x) ≤ m → i + length x ≤ m
 unfolding kept
-kept_fits t i m n at x h e l = omega (arith, rw e at l, length-take n (drop at x), length-drop at x)
+kept_fits t i m x e l = rw e at l
 
 -- ---- what the stores leave, as their definitions say it
-pub later_stored : (d : List ℕ) (i n v r : ℕ) → (n ≡ 0 → ⊥) → r ≡ v → set d i r ≡ put d i (later n v)
+pub later_stored : (d : List ℕ) (i n v r : ℕ) → 0 < n → r ≡ v → set d i r ≡ put d i (later n v)
 later_stored d i n v r h e = rw (later_some n v h, e)
 
 pub kept_some : (d e x : List ℕ) (t : Bool) (i : ℕ) → t ≡ true → e ≡ put d i x → e ≡ put d i (kept t x)
@@ -177,23 +187,23 @@ length_kept true v = refl
 length_kept false v = refl
 
 module _ (n : ℕ) (o : Bool) (v : ℕ) where
-  open_kept : (n ≡ 0 → ⊥) → open_cell n o v ≡ kept o (v ∷ [])
+  open_kept : 0 < n → open_cell n o v ≡ kept o (v ∷ [])
   unfolding open_cell kept
   open_kept h = on n o h
     where
-      on : (m : ℕ) (b : Bool) → (m ≡ 0 → ⊥) → open_cell m b v ≡ kept b (v ∷ [])
-      on zero b h = absurd (h refl)
+      on : (m : ℕ) (b : Bool) → 0 < m → open_cell m b v ≡ kept b (v ∷ [])
+      on zero b h = absurd (omega arith)
       on (suc m) true h = refl
       on (suc m) false h = refl
 
-  pub none_stored : (d : List ℕ) (i : ℕ) → n ≡ 0 → d ≡ put d i (open_cell n o v)
+  pub none_stored : (d : List ℕ) (i : ℕ) → n ≤ 0 → d ≡ put d i (open_cell n o v)
   unfolding open_cell
-  none_stored d i e = rw e
+  none_stored d i e = let z : n ≡ 0 = omega arith in rw z
 
-  pub open_fits : (i p m : ℕ) → p ≡ i → (n ≡ 0 → ⊥) → i + length (open_cell n o v) ≤ m → p + opened o ≤ m
+  pub open_fits : (i p m : ℕ) → p ≡ i → 0 < n → i + length (open_cell n o v) ≤ m → p + opened o ≤ m
   open_fits i p m q h l = omega (arith, ap length (open_kept h), length_kept o v)
 
-  pub open_stored : (d e : List ℕ) (i p : ℕ) → p ≡ i → (n ≡ 0 → ⊥) → e ≡ put d p (kept o (v ∷ [])) → e ≡ put d i (open_cell n o v)
+  pub open_stored : (d e : List ℕ) (i p : ℕ) → p ≡ i → 0 < n → e ≡ put d p (kept o (v ∷ [])) → e ≡ put d i (open_cell n o v)
   open_stored d e i p q h w = rw (open_kept h, ← q) w
 
 pub put_append : (xs ys d : List ℕ) (i : ℕ) → put d i (xs ++ ys) ≡ put (put d i xs) (i + length xs) ys
@@ -214,7 +224,7 @@ module _ (c v z : ℕ) (k : Counts) (h : k.n ≡ 0 → ⊥) (w : Narrow c k) whe
     where
       on : (n : ℕ) → (n ≡ 0 → ⊥) → open_cell n k.tag v ++ absent_cells n (c - (k.tags + opened k.tag)) z ≡ kept k.tag (v ∷ []) ++ replicate (c - (k.tags + opened k.tag)) z
       on zero h = absurd (h refl)
-      on (suc n) h = rw (open_kept (suc n) k.tag v h)
+      on (suc n) h = rw (open_kept (suc n) k.tag v (omega arith))
 
   row_long : length (row_cells c v z k) ≡ opened k.tag + (c - (k.tags + opened k.tag))
   row_long = ap length row_parts ∙ rw (length-append, length-replicate, length_kept)
@@ -252,3 +262,20 @@ module _ (c v z : ℕ) (k : Counts) (d : List ℕ) (i : ℕ) where
   pub first_stored : k.n ≡ 0 → d ≡ put d i (row_cells c v z k)
   unfolding row_cells open_cell absent_cells
   first_stored e = rw e
+
+-- ---- what each function cites
+pub ruleset copies = (copied_one, copied_two, copied_three, copied_four)
+
+pub ruleset numbers = (numbered_one, numbered_two, numbered_three, numbered_four)
+
+pub ruleset laters = (later_none, later_fits, later_stored)
+
+pub ruleset places = (spot_none, spot_some, rows_small, spot_small)
+
+pub ruleset cells = (cell_fits, cell_open, next_open, next_closed, kept_none)
+
+pub ruleset ends = (none_stored, open_fits, open_stored)
+
+pub ruleset rows = (bare_stored, first_stored, row_first, row_rest, row_stored, all_small)
+
+pub ruleset keeps = (kept_fits, kept_none, kept_some)

@@ -1,5 +1,5 @@
 -- What each act of a line stores in each of the eight buffers, and where.
-use Rattle.std.specs.Prelude.{ℕ, zero, suc, ◌+◌, ◌-◌, ◌*◌, ◌≤◌, ◌≡◌, Bool, true, false, List, [], ◌∷◌, ◌++◌, length, take, drop, replicate}
+use Rattle.std.specs.Prelude.{ℕ, zero, suc, ◌+◌, ◌-◌, ◌*◌, ◌≤◌, ◌≡◌, Bool, true, false, List, [], ◌∷◌, ◌++◌, length, replicate}
 use Rattle.laws.specs.Put.{put}
 use Rattle.utf8.specs.Utf8.{width, encode}
 use Rattle.types.specs.TypeOf.{type_of}
@@ -135,24 +135,17 @@ pub record RowRoom (c : ℕ) (k : Counts) (b l : List ℕ) : Type 0 where
   pub starts_room : place c k + length (row_cells c (k.g - k.long) k.g k) ≤ length b
   pub lengths_room : place c k + length (row_cells c k.long 0 k) ≤ length l
 
--- what an act needs that is stored: counts no larger than a line, its character at a place of the line, and room
-pub record Turning (c : ℕ) (a : Act) (k : Counts) (line : List ℕ) (at n : ℕ) (d : Buffers) : Type 0 where
+-- what an act needs that is stored: counts no larger than a line, its character's bytes x, and room
+pub record Turning (c : ℕ) (a : Act) (k : Counts) (x : List ℕ) (d : Buffers) : Type 0 where
   pub small : Small k 4096
   pub narrow : Narrow c k
-  pub some : 1 ≤ n
-  pub few : n ≤ 4
-  pub within : at + n ≤ length line
-  pub bytes : Bytes a (take n (drop at line))
+  pub some : 1 ≤ length x
+  pub few : length x ≤ 4
+  pub bytes : Bytes a x
   pub room : Room c (λ p. p.emit a k) k d
 
--- what the line's end needs, of the four buffers that it stores in, and what it leaves in them
-pub record Finishing (c : ℕ) (k : Counts) (p b w e : List ℕ) : Type 0 where
-  pub char_pos_room : k.n + 1 ≤ length p
-  pub byte_pos_room : k.b + 1 ≤ length b
-  pub row_room : RowRoom c k w e
-
-pub record Finished (c : ℕ) (k : Counts) (p b w e p' b' w' e' : List ℕ) : Type 0 where
-  pub char_pos_is : p' ≡ put p k.n (k.b ∷ [])
-  pub byte_pos_is : b' ≡ put b k.b (k.n ∷ [])
-  pub cell_starts_is : w' ≡ put w (place c k) (row_cells c (k.g - k.long) k.g k)
-  pub cell_lengths_is : e' ≡ put e (place c k) (row_cells c k.long 0 k)
+-- what the line's end needs, of the four buffers that it stores in
+pub record Finishing (c : ℕ) (k : Counts) (d : Buffers) : Type 0 where
+  pub char_pos_room : k.n + 1 ≤ length d.char_pos_buf
+  pub byte_pos_room : k.b + 1 ≤ length d.byte_pos_buf
+  pub row_room : RowRoom c k d.cell_starts_buf d.cell_lengths_buf

@@ -3,8 +3,11 @@
 #![tactic(auto)]
 
 ghost use Rattle.std.specs.Prelude.{◌+◌, ◌≤◌, ◌<◌, ◌≡◌, true, length};
-ghost use Rattle.respelling.specs.Run.{Stands, Behind, ReadSome, WroteSome, goes_on, Went, Ended};
+ghost use Rattle.respelling.specs.Run.{HeldIn, TakesMore, Stands, moved, Behind, ReadSome, WroteSome, goes_on, Went, Ended};
 
+use respelling::unchecked::{
+    after_read, after_write, answer, goes, keep, read_told, start, write_told,
+};
 use respelling::{Call, Stand};
 use std::io::{self, ErrorKind, Read, Write};
 use std::str;
@@ -22,69 +25,48 @@ fn say(rt: &impl Eprint, what: &str, why: io::Error) {
     let _ = eprintln!(rt; "respell: {what}: {reason}");
 }
 
-// Says on standard error that the input could not be read, and why.
-fn say_input(rt: &impl Eprint, why: io::Error) {
-    say(rt, "standard input", why);
+// Says so where a call has failed and is not made again; a write that took nothing has no error of its own.
+fn tell(rt: &impl Eprint, what: &str, call: Call, answer: io::Result<usize>) {
+    if let Call::Failed = call {
+        say(
+            rt,
+            what,
+            answer.err().unwrap_or(ErrorKind::WriteZero.into()),
+        );
+    }
 }
 
-// Says on standard error that the output could not be written, and why.
-fn say_output(rt: &impl Eprint, why: io::Error) {
-    say(rt, "standard output", why);
-}
-
-// The number that the system has for an error, and 0 for what is no error of the system.
-fn number_of(why: io::Error) -> i32 {
-    why.raw_os_error().unwrap_or(0)
-}
-
-// Reads once into a buffer behind a place. A read that failed is told, unless it is to be made again.
+// Reads once into a buffer behind a place.
 fn read_behind(rt: &impl Eprint, from: &mut impl Read, input: &mut [u8], to: usize) -> Call
     requires { to ≤ length input.old }
-    ensures { Behind to input.old result.moved input.new }
+    ensures { Behind to input.old (moved result) input.new }
 {
-    match from.read(&mut input[to..]) {
-        Ok(moved) => respelling::unchecked::read_told(moved as isize, moved, 0),
-        Err(why) => {
-            let call = respelling::unchecked::read_told(-1, 0, number_of(why));
-            if !call.again {
-                say_input(rt, why);
-            }
-            call
-        }
-    }
+    let answer = from.read(&mut input[to..]);
+    let call = read_told(&answer);
+    tell(rt, "standard input", call, answer);
+    call
 }
 
-// Writes once some of the bytes given. A write that failed is told, unless it is to be made again.
+// Writes once some of the bytes given.
 fn write_from(rt: &impl Eprint, to: &mut impl Write, bytes: &[u8]) -> Call
-    ensures { result.moved ≤ length bytes.now }
+    ensures { moved result ≤ length bytes.now }
 {
-    match to.write(bytes) {
-        Ok(moved) => {
-            if moved == 0 {
-                say_output(rt, ErrorKind::WriteZero.into());
-            }
-            respelling::unchecked::write_told(moved as isize, moved, 0)
-        }
-        Err(why) => {
-            let call = respelling::unchecked::write_told(-1, 0, number_of(why));
-            if !call.again {
-                say_output(rt, why);
-            }
-            call
-        }
-    }
+    let answer = to.write(bytes);
+    let call = write_told(&answer);
+    tell(rt, "standard output", call, answer);
+    call
 }
 
 // Reads once behind what is held, which is moved to the front of the buffer first.
 fn read_some(rt: &impl Eprint, from: &mut impl Read, s: Stand, input: &mut [u8]) -> Stand
-    requires from_le_to { (s.from ≤ s.to) × (s.to ≤ length input.old) }
+    requires held_in { HeldIn s input.old }
     requires to_bound { s.to ≤ s.from + 4099 }
-    requires in_bounds { 4099 < length input.old }
+    requires takes_more { TakesMore input.old }
     ensures { ReadSome s input.old result input.new }
 {
-    let m = respelling::unchecked::keep(s, input);
+    let m = keep(s, input);
     let c = read_behind(rt, from, input, m.to);
-    respelling::unchecked::after_read(m, c, input)
+    after_read(m, c, input)
 }
 
 // Writes once some of what is due.
@@ -92,10 +74,8 @@ fn write_some(rt: &impl Eprint, to: &mut impl Write, s: Stand, out: &[u8]) -> St
     requires { (s.put < s.wrote) × (s.wrote ≤ length out.now) }
     ensures { WroteSome s result }
 {
-    let put = s.put;
-    let wrote = s.wrote;
-    let c = write_from(rt, to, &out[put..wrote]);
-    respelling::unchecked::after_write(s, c)
+    let c = write_from(rt, to, &out[s.put..s.wrote]);
+    after_write(s, c)
 }
 
 // One move: what is due is written first, then what is held is answered, and where nothing can be answered more is read.
@@ -109,7 +89,7 @@ fn turn(
 ) -> Stand
     requires stands { Stands s input.old out.old }
     requires s_value { goes_on s ≡ true }
-    requires in_bounds { 4099 < length input.old }
+    requires takes_more { TakesMore input.old }
     ensures { Went s input.old out.old result input.new out.new }
 {
     if s.put < s.wrote {
@@ -118,11 +98,11 @@ fn turn(
     if s.waits {
         return read_some(rt, from, s, input);
     }
-    respelling::unchecked::answer(s, input, out)
+    answer(s, input, out)
 }
 
 // Moves until a call has failed, or the input has ended and all is answered and written. A proved loop has to end, and nothing says that the input
-// does. So the loop counts its turns down, from a number that no run uses up.
+// does. So the loop counts its turns, up to a number that no run uses up.
 fn run(
     rt: &impl Eprint,
     from: &mut impl Read,
@@ -130,15 +110,16 @@ fn run(
     input: &mut [u8],
     out: &mut [u8],
 ) -> Stand
-    requires in_bounds { 4099 < length input.old }
-    requires in_bounds_2 { 8194 ≤ length out.old }
+    requires takes_more { TakesMore input.old }
+    requires takes_answer { 8194 ≤ length out.old }
     ensures { Ended result input.new out.new }
 {
-    let mut s = respelling::unchecked::start();
-    let mut turns = u64::MAX;
-    while turns > 0 && respelling::unchecked::goes(s) {
+    let mut s = start();
+    for _ in 0..u64::MAX {
+        if !goes(s) {
+            break;
+        }
         s = turn(rt, from, to, s, input, out);
-        turns -= 1;
     }
     s
 }

@@ -1,56 +1,112 @@
 -- What a call of the system makes of what stands, by the tests that the code makes. Assumes nothing.
-use Prim.Native.Nat.{ℕ, zero, suc, ◌+◌, ◌-◌, ◌^◌, ◌≤◌, ◌<◌}
+use Rattle.std.specs.Prelude.{Option, None, Some, Result, Ok, Err}
+use Rattle.std.specs.Io.{ReadsAtMost, WritesAtMost}
+use Rattle.std.specs.Ordering.{int_eq}
+use Rattle.std.specs.Option.{option_eq}
+use Rattle.std.specs.IoError.{raw_os_error}
+use Rattle.std.specs.declared.io.Error.{Error}
+use Prim.Native.Nat.{ℕ, zero, suc, min, ◌+◌, ◌-◌, ◌≤◌, ◌<◌}
 use native.Mathlib.Omega.{arith}
 use native.Mathlib.Nat.{sub-zero, zero-sub}
 use mathlib.Core.Path.{◌≡◌, refl, sym, ◌∙◌}
 use mathlib.Core.Bool.{Bool, true, false, ◌||◌}
 use mathlib.Core.List.{List, [], ◌∷◌}
-use borrow.Author.Tests.{lt-ltb, le-ltb, eq-eqb, ne_eqb}
-use lib.Dec.{eqb}
+use borrow.Author.Tests.{ltb-true, ltb-false, eq-eqb, ne_eqb}
+use Rattle.std.proofs.lemmas.Bool.Decides.{nat_tests}
+use lib.Dec.{eqb, ltb}
 use lib.IntN.{ℤ, pos, negsuc}
-use mir.Syntax.{w32}
-use mir.Val.{SFits, of_z}
 use lib.ListN.{length, take, drop, length-take, length-drop}
 use native.Mathlib.Numerals.{unary_clauses}
 use lib.Seq.{take-nil, drop-nil, length-take-le}
-use Rattle.laws.specs.If.{if_true, if_false}
+use Rattle.laws.specs.If.{when◌then◌else◌, if_true, if_false, if_cases}
 use Rattle.respelling.specs.declared.Turn.{Turn}
 use Rattle.respelling.specs.declared.Stand.{Stand}
 use Rattle.respelling.specs.declared.Call.{Call}
+use Rattle.respelling.specs.declared.Call.TheVariants.{Moved, Again, Failed}
 use Rattle.respelling.specs.Stream.{turn, Turned}
 use Rattle.respelling.proofs.Turns.{used_within}
-use Rattle.respelling.specs.Run.{held_end, answered_stand, Answered, interrupted, after_failure, after_read, after_write}
+use Rattle.respelling.specs.Run.{held_end, answered_stand, Answered, interrupted, error_told}
+use Rattle.respelling.specs.Run.{read_told, write_told, moved, after_failure, after_read, after_write}
 
 -- the record with the places and flags told
 abbrev stand : ℕ → ℕ → ℕ → ℕ → Bool → Bool → Bool → Stand
 stand f t p w l a b = record { from = f; to = t; put = p; wrote = w; last = l; waits = a; failed = b }
 
-module _ (s : Stand) (again : Bool) where
-  pub failure_again : again ≡ true → s ≡ after_failure s again
-  unfolding after_failure
-  failure_again e = sym (if_true _ _ _ e)
-
-  pub failure_ends : again ≡ false → stand s.from s.to s.put s.wrote s.last s.waits true ≡ after_failure s again
-  unfolding after_failure
-  failure_ends e = sym (if_false _ _ _ e)
-
-module _ (s : Stand) (c : Call) where
-  pub read_failed : {r : Stand} → c.failed ≡ true → r ≡ after_failure s c.again → r ≡ after_read s c
+module _ (s : Stand) {c : Call} where
+  pub read_moved : {n : ℕ} → c ≡ Moved n → stand s.from (s.to + n) s.put s.wrote (s.last || eqb n 0) false s.failed ≡ after_read s c
   unfolding after_read
-  read_failed e f = f ∙ sym (if_true _ _ _ e)
+  read_moved e = rw e refl
 
-  pub read_moved : c.failed ≡ false
-      → stand s.from (s.to + c.moved) s.put s.wrote (s.last || eqb c.moved 0) false s.failed ≡ after_read s c
+  pub read_again : c ≡ Again → s ≡ after_read s c
   unfolding after_read
-  read_moved e = sym (if_false _ _ _ e)
+  read_again e = rw e refl
 
-  pub write_failed : {r : Stand} → c.failed ≡ true → r ≡ after_failure s c.again → r ≡ after_write s c
-  unfolding after_write
-  write_failed e f = f ∙ sym (if_true _ _ _ e)
+  pub read_failed : c ≡ Failed → after_failure s ≡ after_read s c
+  unfolding after_read
+  read_failed e = rw e refl
 
-  pub write_moved : c.failed ≡ false → stand s.from s.to (s.put + c.moved) s.wrote s.last s.waits s.failed ≡ after_write s c
+  pub write_moved : {n : ℕ} → c ≡ Moved n → stand s.from s.to (s.put + n) s.wrote s.last s.waits s.failed ≡ after_write s c
   unfolding after_write
-  write_moved e = sym (if_false _ _ _ e)
+  write_moved e = rw e refl
+
+  pub write_again : c ≡ Again → s ≡ after_write s c
+  unfolding after_write
+  write_again e = rw e refl
+
+  pub write_failed : c ≡ Failed → after_failure s ≡ after_write s c
+  unfolding after_write
+  write_failed e = rw e refl
+
+-- ---- what an answer tells
+-- the error of an interrupted call, as the code compares it
+is_interrupted : (z : ℤ) → int_eq z (pos 4) ≡ interrupted z
+unfolding interrupted
+is_interrupted (pos n) = grind (arith, nat_tests)
+is_interrupted (negsuc n) = refl
+
+error_is : (o : Option ℤ) → error_told o ≡ (when option_eq int_eq o (Some (pos 4)) then Again else Failed)
+unfolding error_told when◌then◌else◌
+error_is None = refl
+error_is (Some z) = rw is_interrupted refl
+
+module _ {a : Result ℕ Error} {e : Error} {o : Option ℤ} {b : Bool} (r : a ≡ Err e) (q : o ≡ raw_os_error e) (t : b ≡ option_eq int_eq o (Some (pos 4))) where
+  pub told_again : b ≡ true → Again ≡ read_told a
+  unfolding read_told
+  told_again u = rw r (sym (error_is (raw_os_error e) ∙ if_true _ _ _ (rw q at (sym t ∙ u))))
+
+  pub told_failed : b ≡ false → Failed ≡ read_told a
+  unfolding read_told
+  told_failed u = rw r (sym (error_is (raw_os_error e) ∙ if_false _ _ _ (rw q at (sym t ∙ u))))
+
+module _ {a : Result ℕ Error} {n : ℕ} (r : a ≡ Ok n) where
+  pub told_nothing : n ≡ 0 → Failed ≡ write_told a
+  unfolding write_told
+  told_nothing z = rw r (sym (if_true _ _ _ (eq-eqb n 0 z)))
+
+  pub told_some : (n ≡ 0 → ⊥) → Moved n ≡ write_told a
+  unfolding write_told
+  told_some z = rw r (sym (if_false _ _ _ (ne_eqb n 0 z)))
+
+pub told_same : {a : Result ℕ Error} {e : Error} {c : Call} → a ≡ Err e → c ≡ read_told a → c ≡ write_told a
+unfolding read_told write_told
+told_same r q = q ∙ rw r refl
+
+-- what a call moved
+none_moved : (o : Option ℤ) → moved (error_told o) ≡ 0
+unfolding error_told
+none_moved None = refl
+none_moved (Some z) = if_cases (λ (c : Call). moved c ≡ 0) (interrupted z) _ _ (λ _. refl) (λ _. refl)
+
+module _ (l : List ℕ) where
+  pub read_within : (a : Result ℕ Error) {c : Call} → c ≡ read_told a → ReadsAtMost a l → moved c ≤ length l
+  unfolding read_told
+  read_within (Ok n) e h = rw e h.0
+  read_within (Err e) f h = rw f (omega (arith, none_moved (raw_os_error e)))
+
+  pub write_within : (a : Result ℕ Error) {c : Call} → c ≡ write_told a → WritesAtMost a l → moved c ≤ length l
+  unfolding write_told
+  write_within (Ok n) e h = rw e (if_cases (λ (c : Call). moved c ≤ length l) (eqb n 0) _ _ (λ _. omega arith) (λ _. h))
+  write_within (Err e) f h = rw f (omega (arith, none_moved (raw_os_error e)))
 
 -- ---- a slice of a buffer
 -- what is lent from one place up to another
@@ -76,21 +132,15 @@ module _ (s : Stand) (room : ℕ) (input : List ℕ) {out out' : List ℕ} {t : 
   unfolding answered_stand
   answer_done e = let q = rw (between s.from s.to input) at p in record { answer_is = rw (e, q.answer_is) refl; output_is = q.output_is }
 
+-- ---- where the bytes end that are held
 module _ (from to used : ℕ) where
   pub end_used : 0 < used → to ≡ held_end from to used
   unfolding held_end
   end_used h = sym (if_false _ _ _ (ne_eqb used 0 (λ e. omega arith)))
 
-  pub end_cut : used ≤ 0 → 4099 < to - from → from + 4099 ≡ held_end from to used
+  pub end_cut : used ≤ 0 → from ≤ to → from + min (to - from) 4099 ≡ held_end from to used
   unfolding held_end
-  end_cut h l = sym (if_true _ _ _ (eq-eqb used 0 (omega arith)) ∙ if_true _ _ _ (lt-ltb _ _ l))
-
-  pub end_kept : used ≤ 0 → to - from ≤ 4099 → to ≡ held_end from to used
-  unfolding held_end
-  end_kept h l = sym (if_true _ _ _ (eq-eqb used 0 (omega arith)) ∙ if_false _ _ _ (le-ltb _ _ l))
-
--- ---- the number of an error, as the code compares it
-pub of_error : (z : ℤ) → SFits w32 z → eqb (of_z w32 z) 4 ≡ interrupted z
-unfolding interrupted
-of_error (pos n) f = refl
-of_error (negsuc n) f = ne_eqb (2 ^ 32 - suc n) 4 (λ e. omega (arith, f.sfits))
+  end_cut h l =
+      rw (if_true (eqb used 0) (when ltb 4099 (to - from) then from + 4099 else to) to (eq-eqb used 0 (omega arith)))
+      (if_cases (λ (n : ℕ). from + min (to - from) 4099 ≡ n) (ltb 4099 (to - from)) _ _ (λ e. omega (arith, ltb-true 4099 (to - from) e))
+      (λ e. omega (arith, ltb-false 4099 (to - from) e)))

@@ -1,4 +1,6 @@
 -- The digits of a number, from the last to the first. Assumes nothing.
+use mir.Syntax.{w64}
+use mir.Val.{Fits}
 use Prim.Native.Nat.{ℕ, zero, suc, ◌+◌, ◌/◌, ◌%◌, ◌^◌, ◌≤◌, ◌<◌}
 use native.Mathlib.Omega.{arith}
 use mathlib.Core.Path.{◌≡◌, refl, sym, ap, ◌∙◌}
@@ -57,8 +59,8 @@ short (suc k) n h = on (ltb n 10) refl (short k (n / 10) (omega arith))
     on false e f = omega (arith, more_digits n (ltb-false n 10 e))
 
 -- a number of 64 bits has at most 20 digits
-pub decimal_short : (n : ℕ) → n < 2 ^ 64 → length (decimal n) ≤ 20
-decimal_short n h = short 19 n (omega arith)
+pub decimal_short : (n : ℕ) → Fits w64 n → length (decimal n) ≤ 20
+decimal_short n h = short 19 n (omega (arith, h.fits))
 
 -- ---- digits put into a slice
 pub put_one : {n : ℕ} {out : List ℕ} {at : ℕ} → n < 10 → at + length (decimal n) ≤ length out → Puts (decimal n) out at (at + 1) (set out at (48 + n))

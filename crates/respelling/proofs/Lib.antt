@@ -1,7 +1,6 @@
 pub mod Puts
 pub mod Digits
 pub mod Answers
-pub mod Keeps
 pub mod Lines
 pub mod Scan
 pub mod Steps

@@ -11,7 +11,8 @@ use Rattle.laws.specs.If.{if_cases}
 use Rattle.laws.proofs.Facts.{neither}
 use Rattle.respelling.specs.Respell.{respell}
 use Rattle.respelling.specs.Stream.{Done, turn}
-use Rattle.respelling.specs.Run.{State, begins, answers, reads, writes, fails, is_due, calls, goes, Move, by_answer, by_read, by_write, by_nothing, by_failure, Run, start, moves}
+use Rattle.respelling.specs.Run.{State, begins, answers, reads, writes, fails, is_due, calls, goes}
+use Rattle.respelling.specs.Run.{Move, by_answer, by_read, by_write, by_nothing, by_failure, Run, start, moves}
 use Rattle.respelling.proofs.Pieces.{continues, none_printed, turn_waits, cropped}
 
 -- ---- what is left to print
@@ -55,7 +56,8 @@ module _ (room : ℕ) (h : 8194 ≤ room) (a : State) where
   unfolding calls answers made
   owes_answer {x} {w} o c = record {
     whole = λ y e.
-        o.whole y e ∙ rw (none_due a (neither (is_due a) a.waits c).0) (ap (λ l. w ++ l) (continues a.ended room a.held y e ∙ ap (λ l. made.prints ++ l) (sym (left_same y))));
+        o.whole y e ∙ rw (none_due a (neither (is_due a) a.waits c).0)
+        (ap (λ l. w ++ l) (continues a.ended room a.held y e ∙ ap (λ l. made.prints ++ l) (sym (left_same y))));
     rest = left_none;
   }
 

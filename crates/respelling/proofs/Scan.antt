@@ -1,35 +1,18 @@
--- The loop that looks for the first LF. Assumes nothing.
-use Prim.Native.Nat.{ℕ, suc, ◌+◌, ◌≤◌, ◌<◌}
+-- The bytes before the first LF. Assumes nothing.
+use Rattle.std.specs.Prelude.{slice_index}
+use Prim.Native.Nat.{ℕ, zero, suc, ◌≤◌, ◌<◌}
 use native.Mathlib.Omega.{arith}
-use native.Mathlib.Nat.{zero-add}
-use native.Mathlib.Numerals.{add-one}
-use mathlib.Core.Path.{◌≡◌, ◌∙◌}
-use mathlib.Core.List.{List}
+use mathlib.Core.Path.{◌≡◌, sym, ap, ◌∙◌}
+use mathlib.Core.List.{List, [], ◌∷◌}
 use borrow.Author.Tests.{eq-eqb, ne_eqb}
-use lib.Dec.{eqb}
-use lib.ListN.{length, get_or, drop, drop_of_length-le}
-use lib.Seq.{drop-cons}
-use Rattle.laws.specs.If.{when◌then◌else◌, if_true, if_false}
+use lib.ListN.{length}
 use Rattle.respelling.specs.Stream.{line_len}
+use Rattle.respelling.proofs.Lines.{len_feed, len_byte}
 
--- no LF stands before i
-pub record Scanning (s : List ℕ) (i : ℕ) : Type 0 where
-  pub same : i + line_len (drop i s) ≡ line_len s
-
-pub scan_start : (s : List ℕ) → Scanning s 0
-scan_start s = record { same = zero-add _ }
-
-len_at : (s : List ℕ) (i : ℕ) → i < length s → line_len (drop i s) ≡ (when eqb (get_or s i 0) 10 then 0 else suc (line_len (drop (i + 1) s)))
+-- where n bytes are none, and the one behind them is one
+pub line_ends : (s : List ℕ) (n : ℕ) → n ≤ length s → ((i : ℕ) → i < n → slice_index s i ≡ 10 → ⊥) → (n < length s → slice_index s n ≡ 10) → n ≡ line_len s
 unfolding line_len
-len_at s i h = rw (add-one, drop-cons s i 0 h)
-
-module _ (s : List ℕ) (i : ℕ) (h : i < length s) where
-  pub scan_feed : get_or s i 0 ≡ 10 → Scanning s i → i ≡ line_len s
-  scan_feed e k = omega (arith, k.same, len_at s i h ∙ if_true _ _ _ (eq-eqb _ _ e))
-
-  pub scan_more : (get_or s i 0 ≡ 10 → ⊥) → Scanning s i → Scanning s (i + 1)
-  scan_more e k = record { same = omega (arith, k.same, len_at s i h ∙ if_false _ _ _ (ne_eqb _ _ e)) }
-
-pub scan_end : (s : List ℕ) (i : ℕ) → length s ≤ i → Scanning s i → i ≡ line_len s
-unfolding line_len
-scan_end s i h k = omega (arith, rw (drop_of_length-le s h) at k.same)
+line_ends [] n h b f = omega arith
+line_ends (c ∷ s) zero h b f = sym (len_feed c s (eq-eqb c 10 (f (omega arith))))
+line_ends (c ∷ s) (suc n) h b f =
+    ap suc (line_ends s n (omega arith) (λ i k. b (suc i) (omega arith)) (λ k. f (omega arith))) ∙ sym (len_byte c s (ne_eqb c 10 (b 0 (omega arith))))

@@ -1,5 +1,6 @@
 -- The loop that makes step after step. Assumes nothing.
-use Prim.Native.Nat.{ℕ, zero, suc, ◌+◌, ◌-◌, ◌≤◌}
+use Rattle.std.specs.Prelude.{Option, None, Some}
+use Prim.Native.Nat.{ℕ, zero, suc, ◌+◌, ◌-◌, ◌≤◌, ◌<◌}
 use native.Mathlib.Omega.{arith}
 use native.Mathlib.Nat.{zero-add, add_assoc, sub-zero}
 use mathlib.Core.Path.{◌≡◌, refl, sym, ap, ◌∙◌}
@@ -12,7 +13,7 @@ use Rattle.laws.specs.If.{if_cases}
 use Rattle.laws.proofs.Tail.{lent}
 use Rattle.respelling.specs.declared.Turn.{Turn}
 use Rattle.respelling.specs.Puts.{Puts}
-use Rattle.respelling.specs.Stream.{Done, done, step, and_then, steps, turn, Stepped, Turned}
+use Rattle.respelling.specs.Stream.{Done, done, step, and_then, steps, turn, used_of, end_of, Stepped, Turned}
 use Rattle.respelling.proofs.Puts.{puts_none, puts_then}
 use Rattle.respelling.proofs.Pieces.{step_within, turn_rests, turn_goes}
 
@@ -44,45 +45,58 @@ go_start last input out = record {
 }
 
 module _ {last : Bool} {input out₀ out : List ℕ} {used wrote : ℕ} (g : Going last input out₀ out used wrote)
-    {t : Turn} {end : List ℕ} (p : Stepped (step last (length out - wrote) (take (length input - used) (drop used input))) out wrote t end) where
+    {a : Option Turn} {end : List ℕ} (p : Stepped (step last (length out - wrote) (take (length input - used) (drop used input))) out wrote a end) where
   done_by : Done
   done_by = step last (length out - wrote) (drop used input)
 
-  stepped : Stepped done_by out wrote t end
+  stepped : Stepped done_by out wrote a end
   unfolding done_by
   stepped = rw (lent input used g.within) at p
 
-  pub step_ends : used + t.used ≤ length input
-  unfolding done_by
-  step_ends = omega (arith, stepped.used_is, step_within last (drop used input) (length out - wrote), length-drop used input, g.within)
-
-  both : Puts (g.bytes ++ done_by.prints) out₀ 0 t.wrote end
+  both : Puts (g.bytes ++ done_by.prints) out₀ 0 (end_of wrote a) end
   both = puts_then g.puts (omega arith) stepped.puts
 
-  pub go_done : t.used ≡ 0 → Turned (turn last (length out₀) input) out₀ (record { used = used + t.used; wrote = t.wrote }) end
+  pub go_done : a ≡ None → Turned (turn last (length out₀) input) out₀ (record { used = used; wrote = wrote }) end
   unfolding done_by and_then
-  go_done z =
-      let q : turn last (length out - wrote) (drop used input) ≡ done_by = turn_rests last (length out - wrote) (drop used input) (sym stepped.used_is ∙ z) in
-      let e : t.wrote ≡ length (g.bytes ++ done_by.prints) = both.end ∙ zero-add _ in
+  go_done n =
+      let z : used_of a ≡ 0 = ap used_of n in
+      let u : done_by.used ≡ 0 = sym stepped.used_is ∙ z in
+      let q : turn last (length out - wrote) (drop used input) ≡ done_by = turn_rests last (length out - wrote) (drop used input) u in
+      let e : wrote ≡ length (g.bytes ++ done_by.prints) = sym (ap (end_of wrote) n) ∙ both.end ∙ zero-add _ in
+      let f : used ≡ used + done_by.used = omega (arith, u) in
       rw (g.same, q) (record {
-        answer_is = λ i. record { used = used + stepped.used_is i; wrote = e i };
+        answer_is = λ i. record { used = f i; wrote = e i };
         output_is = both.output;
       })
 
-  pub go_more : (t.used ≡ 0 → ⊥) → length end ≡ length out → Going last input out₀ end (used + t.used) t.wrote
-  unfolding done_by
-  go_more z k =
-      let d : Done = done_by in
-      let e : length out - wrote - length d.prints ≡ length end - t.wrote = omega (arith, stepped.puts.end) in
-      let q = turn_goes last (length out - wrote) (drop used input) (λ y. z (stepped.used_is ∙ y)) in
-      record {
-        within = step_ends;
-        fits = omega (arith, stepped.fits);
-        long = k ∙ g.long;
-        bytes = g.bytes ++ d.prints;
-        puts = both;
-        same = rw (stepped.used_is, ← e, ← drop-drop) (g.same ∙ ap (and_then (done used g.bytes)) q ∙ then_assoc used g.bytes d _);
-      }
+  module _ {t : Turn} (s : a ≡ Some t) where
+    uses : t.used ≡ done_by.used
+    uses = ap used_of (sym s) ∙ stepped.used_is
+
+    ends : end_of wrote a ≡ t.wrote
+    ends = ap (end_of wrote) s
+
+    pub step_moves : 0 < t.used
+    step_moves = stepped.some t s
+
+    pub step_ends : used + t.used ≤ length input
+    unfolding done_by
+    step_ends = omega (arith, uses, step_within last (drop used input) (length out - wrote), length-drop used input, g.within)
+
+    pub go_more : length end ≡ length out → Going last input out₀ end (used + t.used) t.wrote
+    unfolding done_by
+    go_more k =
+        let d : Done = done_by in
+        let e : length out - wrote - length d.prints ≡ length end - t.wrote = omega (arith, stepped.puts.end, ends) in
+        let q = turn_goes last (length out - wrote) (drop used input) (λ y. omega (arith, uses, step_moves)) in
+        record {
+          within = step_ends;
+          fits = omega (arith, stepped.fits, ends);
+          long = k ∙ g.long;
+          bytes = g.bytes ++ d.prints;
+          puts = rw ends at both;
+          same = rw (uses, ← e, ← drop-drop) (g.same ∙ ap (and_then (done used g.bytes)) q ∙ then_assoc used g.bytes d _);
+        }
 
 -- ---- what a caller has
 steps_within : (more : ℕ) (last : Bool) (room : ℕ) (s : List ℕ) → (steps more last room s).used ≤ length s

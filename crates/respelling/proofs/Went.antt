@@ -7,14 +7,17 @@ use mathlib.Core.Bool.{Bool, true, false, not, ◌&&◌, ◌||◌, false≢true}
 use mathlib.Core.List.{List, [], ◌++◌}
 use borrow.Author.Tests.{le-leb, lt-leb, lt-ltb, le-ltb, ltb-true, ltb-false, eqb-true}
 use lib.Dec.{eqb, leb, ltb}
-use lib.IntN.{ℤ}
 use lib.ListN.{length, take, drop, length-append, length-take, length-drop}
 use lib.Seq.{take-append_seam, take-take, take_all, take-add, drop-drop, length-take-le}
 use Rattle.laws.specs.If.{when◌then◌else◌, if_true, if_false, if_cases}
 use Rattle.respelling.specs.declared.Stand.{Stand}
 use Rattle.respelling.specs.declared.Call.{Call}
+use Rattle.respelling.specs.declared.Call.TheVariants.{Moved, Again, Failed}
 use Rattle.respelling.specs.Stream.{Done, turn}
-use Rattle.respelling.specs.Run.{State, state_of, begins, answers, reads, writes, fails, is_due, calls, goes, Move, by_answer, by_read, by_write, by_nothing, by_failure, start, moves, Stands, first, held_end, answered_stand, Answered, Kept, read_told, write_told, after_failure, after_read, after_write, Behind, ReadSome, WroteSome, goes_on, Went, Ran, Ended}
+use Rattle.respelling.specs.Run.{State, state_of, begins, answers, reads, writes, fails, is_due, calls, goes}
+use Rattle.respelling.specs.Run.{Move, by_answer, by_read, by_write, by_nothing, by_failure, start, moves}
+use Rattle.respelling.specs.Run.{Stands, first, held_end, answered_stand, Answered, Kept}
+use Rattle.respelling.specs.Run.{moved, after_failure, after_read, after_write, Behind, ReadSome, WroteSome, goes_on, Went, Ran, Ended}
 use Rattle.respelling.specs.Respell.{respell, whole}
 use Rattle.respelling.proofs.Runs.{finished}
 use Rattle.respelling.proofs.Whole.{only_whole}
@@ -52,7 +55,8 @@ module _ (s : Stand) (input out : List ℕ) (k : Stands s input out) where
       on true e =
           let l : 4099 < s.to - s.from = ltb-true _ _ e in
           let z : s.from + 4099 - s.from ≡ 4099 = omega arith in
-          sym (between s.from (s.from + 4099) input) ∙ rw z (sym (rw (between s.from s.to input) at (take-take 4099 (s.to - s.from) (drop s.from input) (omega arith))))
+          sym (between s.from (s.from + 4099) input)
+          ∙ rw z (sym (rw (between s.from s.to input) at (take-take 4099 (s.to - s.from) (drop s.from input) (omega arith))))
       on false e =
           let l : s.to - s.from ≤ 4099 = ltb-false _ _ e in
           sym (take_all 4099 (drop s.from (take s.to input)) (omega (arith, between_length s.from s.to input k.input_in)))
@@ -112,19 +116,6 @@ module _ (s : Stand) (input out : List ℕ) (k : Stands s input out) where
         };
       })
 
--- ---- a call that failed
--- what stands does not change, but that the run is over where the call is not made again
-after_failed : (s : Stand) (input out : List ℕ) (again : Bool) → calls (state_of s input out) ≡ true
-    → Move (length out) (state_of s input out) [] [] (state_of (after_failure s again) input out)
-unfolding after_failure when◌then◌else◌ state_of fails
-after_failed s input out true c = by_nothing c
-after_failed s input out false c = by_failure c
-
-stands_failed : (s : Stand) (input out : List ℕ) (again : Bool) → Stands s input out → Stands (after_failure s again) input out
-unfolding after_failure when◌then◌else◌
-stands_failed s input out true k = k
-stands_failed s input out false k = record { held_in = k.held_in; input_in = k.input_in; due_in = k.due_in; output_in = k.output_in; few = k.few }
-
 -- ---- writing
 module _ (s : Stand) (input out : List ℕ) (k : Stands s input out) where
   wrote_so : (n : ℕ) → is_due (state_of s input out) ≡ true → s.put + n ≤ s.wrote
@@ -138,14 +129,24 @@ module _ (s : Stand) (input out : List ℕ) (k : Stands s input out) where
   }
 
   pub went_write : {r : Stand} → s.put < s.wrote → WroteSome s r → Went s input out r input out
-  unfolding after_write calls
-  went_write h p =
-      let d : is_due (state_of s input out) ≡ true = due_some s input out h k.output_in in
-      let c : calls (state_of s input out) ≡ true = rw d refl in
-      rw p.answer_is
-      (if_cases (λ (r : Stand). Went s input out r input out) p.call.failed _ _
-      (λ _. record { got = []; gave = []; move = after_failed s input out p.call.again c; stands = stands_failed s input out p.call.again k })
-      (λ _. wrote_so p.call.moved d p.within))
+  unfolding after_write calls state_of fails
+  went_write h p = rw p.answer_is (on p.call p.within)
+    where
+      d : is_due (state_of s input out) ≡ true
+      d = due_some s input out h k.output_in
+
+      c : calls (state_of s input out) ≡ true
+      c = rw d refl
+
+      on : (x : Call) → s.put + moved x ≤ s.wrote → Went s input out (after_write s x) input out
+      on (Moved n) l = wrote_so n d l
+      on Again l = record { got = []; gave = []; move = by_nothing c; stands = k }
+      on Failed l = record {
+        got = [];
+        gave = [];
+        move = by_failure c;
+        stands = record { held_in = k.held_in; input_in = k.input_in; due_in = k.due_in; output_in = k.output_in; few = k.few };
+      }
 
 -- ---- reading
 -- what a call put into a slice that begins at a place
@@ -163,14 +164,6 @@ module _ (at : ℕ) (d e : List ℕ) where
         within = omega (arith, a);
       }
 
-  pub behind_told : (got : ℤ) (n : ℕ) (b : ℤ) {c : Call} → c ≡ read_told got n b → at ≤ length d → n ≤ length e → Behind at d c.moved after_call
-  unfolding read_told
-  behind_told got n b q h k = rw q (behind h k)
-
-pub write_told_lem : (got : ℤ) (n : ℕ) (b : ℤ) {c : Call} {m : ℕ} → c ≡ write_told got n b → n ≤ m → c.moved ≤ m
-unfolding write_told
-write_told_lem got n b q h = rw q h
-
 -- what is kept is moved to the front, and there is room behind it
 pub kept_room : (s : Stand) (input : List ℕ) {m : Stand} {mid : List ℕ} → Kept s input m mid → s.to ≤ s.from + 4099 → s.to ≤ length input
     → m.to ≤ 4099
@@ -178,12 +171,12 @@ kept_room s input p f h =
     omega (arith, ap (λ (x : Stand). x.to) p.answer_is, p.puts.end, between_length s.from s.to input h)
 
 pub read_some : {s : Stand} {input : List ℕ} (m : Stand) {mid after : List ℕ} (c : Call) {r : Stand}
-    → Kept s input m mid → s.to ≤ s.from + 4099 → s.to ≤ length input → Behind m.to mid c.moved after → 4099 < length after → r ≡ after_read m c
+    → Kept s input m mid → s.to ≤ s.from + 4099 → s.to ≤ length input → Behind m.to mid (moved c) after → 4099 < length after → r ≡ after_read m c
     → ReadSome s input r after
 read_some {s} {input} m {mid} {after} c p f h b l e =
     record { kept = m; mid = mid; call = c; keeps = p; room = omega (arith, kept_room s input p f h); behind = b; answer_is = e }
 
-pub wrote_some : {s : Stand} (c : Call) (out : List ℕ) {r : Stand} → s.put < s.wrote → c.moved ≤ length (take (s.wrote - s.put) (drop s.put out))
+pub wrote_some : {s : Stand} (c : Call) (out : List ℕ) {r : Stand} → s.put < s.wrote → moved c ≤ length (take (s.wrote - s.put) (drop s.put out))
     → r ≡ after_write s c → WroteSome s r
 wrote_some {s} c out h k e = record { call = c; within = omega (arith, length-take (s.wrote - s.put) (drop s.put out)); answer_is = e }
 
@@ -248,13 +241,22 @@ module _ (s : Stand) (input out : List ℕ) (k : Stands s input out) {r : Stand}
   same_front : state_of at_front after out ≡ state_of s input out
   same_front = ap (λ (x : Stand). state_of x after out) (sym is_front) ∙ same
 
-  read_failed : (again : Bool) → calls (state_of s input out) ≡ true → Went s input out (after_failure at_front again) after out
-  read_failed again c = record {
-    got = [];
-    gave = [];
-    move = rw same_front at (after_failed at_front after out again (rw same_front c));
-    stands = stands_failed at_front after out again stands_front;
-  }
+  read_failed : calls (state_of s input out) ≡ true → Went s input out (after_failure at_front) after out
+  unfolding state_of fails
+  read_failed c =
+      let m : Move (length out) (state_of at_front after out) [] [] (state_of (after_failure at_front) after out) = by_failure (rw same_front c) in
+      record {
+        got = [];
+        gave = [];
+        move = rw same_front at m;
+        stands = record {
+          held_in = stands_front.held_in;
+          input_in = stands_front.input_in;
+          due_in = k.due_in;
+          output_in = k.output_in;
+          few = stands_front.few;
+        };
+      }
 
   abbrev read_stand : ℕ → Stand
   read_stand j = record { from = 0; to = n + j; put = s.put; wrote = s.wrote; last = s.last || eqb j 0; waits = false; failed = s.failed }
@@ -280,10 +282,13 @@ module _ (s : Stand) (input out : List ℕ) (k : Stands s input out) {r : Stand}
   went_read g h w =
       let d : is_due (state_of s input out) ≡ false = due_none s input out h in
       let c : calls (state_of s input out) ≡ true = rw (d, w) refl in
-      rw (p.answer_is, is_front)
-      (if_cases (λ (x : Stand). Went s input out x after out) p.call.failed _ _
-      (λ _. read_failed p.call.again c)
-      (λ _. read_so p.call.moved (omega (arith, p.behind.within, n_is)) d w (goes_reads s g h w)))
+      rw (p.answer_is, is_front) (on p.call p.behind.within d c)
+    where
+      on : (x : Call) → p.kept.to + moved x ≤ length after → is_due (state_of s input out) ≡ false → calls (state_of s input out) ≡ true
+          → Went s input out (after_read at_front x) after out
+      on (Moved j) l d c = read_so j (omega (arith, n_is)) d w (goes_reads s g h w)
+      on Again l d c = record { got = []; gave = []; move = rw same_front (by_nothing c); stands = stands_front }
+      on Failed l d c = read_failed c
 
 -- ---- a run
 ran_first : (input out : List ℕ) → Ran first input out

@@ -12,7 +12,8 @@ use Rattle.laws.specs.If.{when◌then◌else◌, if_true, if_false, if_cases}
 use Rattle.laws.proofs.Facts.{neither}
 use Rattle.respelling.specs.Respell.{before, lines, answers, respell, fed, whole}
 use Rattle.respelling.specs.Stream.{line_len, Done, step, and_then, steps, turn}
-use Rattle.respelling.specs.Run.{State, begins, reads, writes, fails, is_due, calls, Move, by_answer, by_read, by_write, by_nothing, by_failure, Run, start, moves}
+use Rattle.respelling.specs.Run.{State, begins, reads, writes, fails, is_due, calls}
+use Rattle.respelling.specs.Run.{Move, by_answer, by_read, by_write, by_nothing, by_failure, Run, start, moves}
 use Rattle.respelling.specs.Run as run
 use Rattle.respelling.proofs.Lines.{len_feed, len_byte, lines_feed, lines_byte}
 use Rattle.respelling.proofs.Pieces.{turn_waits, open_front}

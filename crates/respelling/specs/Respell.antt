@@ -3,7 +3,7 @@ use Rattle.std.specs.Prelude.{ℕ, Bool, false, ◌||◌, List, [], ◌∷◌, �
 use Prim.Native.Char.{code as chr}
 use Rattle.laws.specs.If.{when◌then◌else◌}
 use Rattle.sentence.specs.Forms.{letter}
-use Rattle.sentence.specs.Refusals.{refusal}
+use Rattle.sentence.specs.Refusals.{refusal, number}
 use Rattle.convert_buffers.specs.Between.{Outcome, writes, refuses}
 use Rattle.convert.specs.Convert.{conversion}
 use Rattle.respelling.specs.Decimal.{decimal}
@@ -17,7 +17,7 @@ outcome (a ∷ b ∷ x) = conversion (letter a) (letter b) x 8192 0
 -- how it is printed: `=` and the written line, or `!`, number, space and place; then LF
 unfoldable pub printed : Outcome → List ℕ
 printed (writes w) = chr "=" ∷ (w ++ (chr "\n" ∷ []))
-printed (refuses r) = chr "!" ∷ (decimal r.number ++ (chr " " ∷ (decimal r.place ++ (chr "\n" ∷ []))))
+printed (refuses r) = chr "!" ∷ (decimal (number r) ++ (chr " " ∷ (decimal r.place ++ (chr "\n" ∷ []))))
 
 abbrev pub answer : List ℕ → List ℕ
 answer l = printed (outcome l)

@@ -1,6 +1,8 @@
 -- The program between its calls of the system: what stands, how each call moves it, and what a run has read and written.
 use Rattle.std.specs.Prelude.{ℕ, ◌+◌, ◌-◌, ◌≤◌, ◌<◌, ◌≡◌, Bool, true, false, not, ◌&&◌, ◌||◌, List, [], ◌++◌, eqb, leb, ltb, ℤ, pos, negsuc, length, take, drop}
-use Rattle.std.specs.Int.Signed.{lt_z, le_z}
+use Rattle.std.specs.Prelude.{Option, None, Some, Result, Ok, Err}
+use Rattle.std.specs.IoError.{raw_os_error}
+use Rattle.std.specs.declared.io.Error.{Error}
 use Rattle.laws.specs.If.{when◌then◌else◌}
 use Rattle.laws.specs.Put.{over}
 use Rattle.respelling.specs.Puts.{Puts}
@@ -8,6 +10,7 @@ use Rattle.respelling.specs.Respell.{respell, whole}
 use Rattle.respelling.specs.Stream.{Done, turn}
 use Rattle.respelling.specs.declared.Stand.{Stand}
 use Rattle.respelling.specs.declared.Call.{Call}
+use Rattle.respelling.specs.declared.Call.TheVariants.{Moved, Again, Failed}
 
 -- what stands: the bytes held, which were read and wait for their answer; the bytes due, which were answered and wait to be written; whether the
 -- input has ended, whether nothing can be answered before more is read, and whether a call has failed
@@ -21,6 +24,14 @@ pub record State : Type 0 where
 -- the bytes held: between two places of the input buffer
 abbrev pub held_bytes : Stand → List ℕ → List ℕ
 held_bytes s input = drop s.from (take s.to input)
+
+-- they lie within it
+abbrev pub HeldIn : Stand → List ℕ → Type 0
+HeldIn s input = (s.from ≤ s.to) × (s.to ≤ length input)
+
+-- the input buffer has room behind what is kept of a line that has not ended
+abbrev pub TakesMore : List ℕ → Type 0
+TakesMore input = 4099 < length input
 
 -- what stands in the buffers between the places of a record
 unfoldable pub state_of : Stand → List ℕ → List ℕ → State
@@ -131,30 +142,41 @@ unfoldable pub interrupted : ℤ → Bool
 interrupted (pos n) = eqb n 4
 interrupted (negsuc n) = false
 
--- what a read and a write say by their answer and the number of their error; a write that takes nothing has failed
-unfoldable pub read_told : ℤ → ℕ → ℤ → Call
-read_told got moved error = record { moved = moved; failed = lt_z got (pos 0); again = interrupted error }
+-- what a call that failed is, by its error
+unfoldable pub error_told : Option ℤ → Call
+error_told None = Failed
+error_told (Some z) = when interrupted z then Again else Failed
 
-unfoldable pub write_told : ℤ → ℕ → ℤ → Call
-write_told got moved error = record { moved = moved; failed = le_z got (pos 0); again = lt_z got (pos 0) && interrupted error }
+-- what a read and a write say by their answer; a write that takes nothing has failed
+unfoldable pub read_told : Result ℕ Error → Call
+read_told (Ok n) = Moved n
+read_told (Err e) = error_told (raw_os_error e)
 
--- a call that failed, made again where that is asked
-unfoldable pub after_failure : Stand → Bool → Stand
-after_failure s again =
-    when again then s
-    else record { from = s.from; to = s.to; put = s.put; wrote = s.wrote; last = s.last; waits = s.waits; failed = true }
+unfoldable pub write_told : Result ℕ Error → Call
+write_told (Ok n) = when eqb n 0 then Failed else Moved n
+write_told (Err e) = error_told (raw_os_error e)
 
--- a read: bytes behind those that are held, or none, since the input has ended
+-- the bytes that a call moved
+abbrev pub moved : Call → ℕ
+moved (Moved n) = n
+moved Again = 0
+moved Failed = 0
+
+-- a call failed, and the run ends
+abbrev pub after_failure : Stand → Stand
+after_failure s = record { from = s.from; to = s.to; put = s.put; wrote = s.wrote; last = s.last; waits = s.waits; failed = true }
+
+-- a read: bytes behind those that are held, or none, since the input has ended; it is made again, or it failed
 unfoldable pub after_read : Stand → Call → Stand
-after_read s c =
-    when c.failed then after_failure s c.again
-    else record { from = s.from; to = s.to + c.moved; put = s.put; wrote = s.wrote; last = s.last || eqb c.moved 0; waits = false; failed = s.failed }
+after_read s (Moved n) = record { from = s.from; to = s.to + n; put = s.put; wrote = s.wrote; last = s.last || eqb n 0; waits = false; failed = s.failed }
+after_read s Again = s
+after_read s Failed = after_failure s
 
 -- a write of some of the bytes that are due
 unfoldable pub after_write : Stand → Call → Stand
-after_write s c =
-    when c.failed then after_failure s c.again
-    else record { from = s.from; to = s.to; put = s.put + c.moved; wrote = s.wrote; last = s.last; waits = s.waits; failed = s.failed }
+after_write s (Moved n) = record { from = s.from; to = s.to; put = s.put + n; wrote = s.wrote; last = s.last; waits = s.waits; failed = s.failed }
+after_write s Again = s
+after_write s Failed = after_failure s
 
 -- so many bytes moved into a buffer behind a place: no byte before it is altered
 pub record Behind (at : ℕ) (d : List ℕ) (moved : ℕ) (d' : List ℕ) : Type 0 where
@@ -168,13 +190,13 @@ pub record ReadSome (s : Stand) (input : List ℕ) (r : Stand) (input' : List �
   pub call : Call
   pub keeps : Kept s input kept mid
   pub room : kept.to < length input'
-  pub behind : Behind kept.to mid call.moved input'
+  pub behind : Behind kept.to mid (moved call) input'
   pub answer_is : r ≡ after_read kept call
 
 -- one write of what is due
 pub record WroteSome (s : Stand) (r : Stand) : Type 0 where
   pub call : Call
-  pub within : s.put + call.moved ≤ s.wrote
+  pub within : s.put + moved call ≤ s.wrote
   pub answer_is : r ≡ after_write s call
 
 -- whether the run goes on, by the record

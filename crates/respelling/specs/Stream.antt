@@ -1,5 +1,5 @@
 -- The program on a piece of input: what is done with it in one call.
-use Rattle.std.specs.Prelude.{ℕ, zero, suc, ◌+◌, ◌-◌, ◌≤◌, ◌≡◌, Bool, ◌&&◌, List, [], ◌∷◌, ◌++◌, eqb, ltb, length, take, drop}
+use Rattle.std.specs.Prelude.{ℕ, zero, suc, ◌+◌, ◌-◌, ◌≤◌, ◌<◌, ◌≡◌, Bool, ◌&&◌, List, [], ◌∷◌, ◌++◌, eqb, ltb, length, take, drop, Option, None, Some}
 use Prim.Native.Char.{code as chr}
 use Rattle.laws.specs.If.{when◌then◌else◌}
 use Rattle.laws.specs.Put.{over}
@@ -53,8 +53,18 @@ pub record Turned (d : Done) (out : List ℕ) (r : Turn) (out' : List ℕ) : Typ
   pub answer_is : r ≡ record { used = d.used; wrote = length d.prints }
   pub output_is : out' ≡ over d.prints out
 
--- the same of one step, whose bytes go behind a place, and end where the answer's do
-pub record Stepped (d : Done) (out : List ℕ) (at : ℕ) (r : Turn) (out' : List ℕ) : Type 0 where
-  pub used_is : r.used ≡ d.used
-  pub puts : Puts d.prints out at r.wrote out'
-  pub fits : r.wrote ≤ length out
+-- what an answer of one step uses, and where its bytes end
+abbrev pub used_of : Option Turn → ℕ
+used_of None = 0
+used_of (Some t) = t.used
+
+abbrev pub end_of : ℕ → Option Turn → ℕ
+end_of at None = at
+end_of at (Some t) = t.wrote
+
+-- the same of one step, whose bytes go behind a place, and end where the answer's do; none is answered where nothing is used
+pub record Stepped (d : Done) (out : List ℕ) (at : ℕ) (r : Option Turn) (out' : List ℕ) : Type 0 where
+  pub used_is : used_of r ≡ d.used
+  pub puts : Puts d.prints out at (end_of at r) out'
+  pub fits : end_of at r ≤ length out
+  pub some : (t : Turn) → r ≡ Some t → 0 < t.used

@@ -12,6 +12,7 @@ pub struct Turn {
 
 // What stands between two calls of the system. The bytes from `from` up to `to` of the input buffer wait for their answer, those from `put` up to
 // `wrote` of the output buffer wait to be written; the input has ended; nothing can be answered before more is read; a call has failed.
+// The flags are those of `State` in specs/Run.antt, which may not change, and each may be set without the others.
 #[derive(Clone, Copy)]
 pub struct Stand {
     pub from: usize,
@@ -23,10 +24,10 @@ pub struct Stand {
     pub failed: bool,
 }
 
-// What a call of the system answered: the bytes that it moved, that it failed, and that it is to be made again.
+// What a call of the system came to: it moved so many bytes, it is to be made again, or it failed.
 #[derive(Clone, Copy)]
-pub struct Call {
-    pub moved: usize,
-    pub failed: bool,
-    pub again: bool,
+pub enum Call {
+    Moved(usize),
+    Again,
+    Failed,
 }

@@ -1,4 +1,5 @@
 -- Where the decision answers a sentence, its record and the buffers hold the decided sentence. Assumes nothing.
+use Rattle.std.specs.Prelude.{Ok}
 use native.Mathlib.Omega.{arith}
 use mathlib.Core.Path.{◌≡◌, ◌∙◌}
 use mathlib.Core.List.{List, map}
@@ -6,8 +7,7 @@ use borrow.Author.Tests.{not-false}
 use lib.IntN.{ℤ}
 use Rattle.sentence.specs.Writing.{marked, reset_tags_of, decision, scored}
 use Rattle.sheet.specs.declared.Record.{Record}
-use Rattle.sheet.specs.declared.Answer.{Answer}
-use Rattle.sheet.specs.declared.Answer.TheVariants as answer
+use Rattle.sheet.specs.Answers.{Answer}
 use Rattle.sheet.specs.Layout.{Buffers, Holds, spell}
 use Rattle.sheet.proofs.Exact.{is_sheet_lem}
 use Rattle.changes.proofs.Changed.{text_bare, rows_bare, no_tag_bytes, text_marked, reset_formed, marked_formed}
@@ -15,7 +15,7 @@ use Rattle.changes.proofs.After.{room_kept, lays_holds}
 use Rattle.scores.specs.Scores.{Predicted, score_answer}
 
 pub predicted_holds : (r : Record) (d : Buffers) (zs : List ℤ) (a : Answer) (e : Buffers) (q : Record)
-    → Predicted r d zs a e → a ≡ answer.Sentence q → Holds q e (scored zs (spell r d))
+    → Predicted r d zs a e → a ≡ Ok q → Holds q e (scored zs (spell r d))
 unfolding score_answer scored reset_tags_of
 predicted_holds r d zs a e q l h =
     let s = spell r d in

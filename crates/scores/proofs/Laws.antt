@@ -1,19 +1,18 @@
 -- What the decision's proofs need. Assumes nothing.
+use Rattle.std.specs.Prelude.{Ok}
 use Prim.Native.Nat.{ℕ, ◌*◌, zero, suc, ◌+◌, ◌-◌, ◌^◌, ◌≤◌, ◌<◌}
 use native.Mathlib.Omega.{arith}
 use mathlib.Core.Path.{◌≡◌, refl, sym, ◌∙◌}
-use mathlib.Core.Bool.{true, false, false≢true}
 use mathlib.Core.List.{List, [], ◌∷◌, ◌++◌, map}
 use lib.IntN.{ℤ, pos, negsuc}
 use borrow.Author.Tests.{lt-ltb}
 use lib.ListN.{length, get_or, drop, replicate, length-map, drop_of_length-le}
 use lib.Signed.{mag, lt_z}
 use mir.Syntax.{w32}
-use mir.Val.{SFits, hbits, of_z, to_z}
+use mir.Val.{SFits, bool_byte, hbits, of_z, to_z}
 use mir.ValLaws.{to_z-of_z}
 use Rattle.sheet.proofs.Look.{left, bounds}
 use Rattle.sheet.specs.declared.Record.{Record}
-use Rattle.sheet.specs.declared.Answer.TheVariants as answer
 use Rattle.sheet.specs.Eight.{the_text, the_types, the_char_pos, the_byte_pos}
 use Rattle.sheet.proofs.Eights.{in_order}
 use Rattle.sheet.specs.Layout.{Buffers, with_boundaries, record_of, lay, laid, Holds}
@@ -23,24 +22,15 @@ use Rattle.changes.specs.Changes.{Laid}
 use Rattle.changes.proofs.Changed.{text_bare, marks_bare, rows_bare, no_tag_bytes, text_marked, marks_marked}
 use Rattle.changes.proofs.Kept.{stays, cell_starts_reset, cell_lengths_reset, tag_bytes_reset}
 
--- a score above zero, and one that is not
-pub above : (z : ℤ) → SFits w32 z → lt_z (to_z w32 0) (to_z w32 (of_z w32 z)) ≡ true → 1 ≡ code (decision z)
+-- whether a score is above zero, as a number
+pub above : (z : ℤ) → SFits w32 z → bool_byte (lt_z (pos 0) (to_z w32 (of_z w32 z))) ≡ code (decision z)
 unfolding code decision
-above z f h = on z (rw (to_z-of_z w32 z f) at h)
+above z f = rw (to_z-of_z w32 z f) (on z)
   where
-    on : (y : ℤ) → lt_z (pos 0) y ≡ true → 1 ≡ code (decision y)
-    on (pos zero) e = absurd (false≢true e)
-    on (pos (suc n)) e = refl
-    on (negsuc n) e = absurd (false≢true e)
-
-pub not_above : (z : ℤ) → SFits w32 z → lt_z (to_z w32 0) (to_z w32 (of_z w32 z)) ≡ false → 0 ≡ code (decision z)
-unfolding code decision
-not_above z f h = on z (rw (to_z-of_z w32 z f) at h)
-  where
-    on : (y : ℤ) → lt_z (pos 0) y ≡ false → 0 ≡ code (decision y)
-    on (pos zero) e = refl
-    on (pos (suc n)) e = absurd (false≢true (sym e ∙ lt-ltb 0 (suc n) (omega arith)))
-    on (negsuc n) e = refl
+    on : (y : ℤ) → bool_byte (lt_z (pos 0) y) ≡ code (decision y)
+    on (pos zero) = refl
+    on (pos (suc n)) = rw (lt-ltb 0 (suc n) (omega arith))
+    on (negsuc n) = refl
 
 -- ---- the decisions that are left to store
 pub decide_step : (zs : List ℤ) (i v : ℕ) → i < length zs → mag (get_or zs i (pos 0)) < 2 ^ hbits w32 → v ≡ code (decision (to_z w32 (of_z w32 (get_or zs i (pos 0)))))
@@ -59,7 +49,7 @@ pub ruleset decides = (decide_none, decide_long)
 module _ {r : Record} {d : Buffers} {s : Sentence} (h : Holds r d s) where
   pub scores_lay : (zs : List ℤ) (marked-as : List ℕ) → length zs ≡ r.n - 1
       → marked-as ≡ map code (map decision zs) ++ drop (length zs) d.boundaries_buf
-      → Laid (scored zs s) d (answer.Sentence (record { n = r.n; b = r.b; columns = 0; cells = 0; g = 0 }))
+      → Laid (scored zs s) d (Ok (record { n = r.n; b = r.b; columns = 0; cells = 0; g = 0 }))
       (with_boundaries marked-as d)
   unfolding record_of lay laid scored reset_tags_of
   scores_lay zs marked-as l e =

@@ -5,11 +5,12 @@ ghost use Rattle.sheet.specs.Layout.{lent_before, with_boundaries};
 ghost use Rattle.scores.specs.Scores.{Predicted};
 
 use sentence::{NO_SHEET, Refusal};
-use sheet::{Answer, Record};
+use sheet::{Record, Sheet};
 
 pub mod unchecked;
 
 // A boundary is a word's where its score is above zero, else none; tags and columns become none.
+// The buffers come one by one, since the others may be lent to be read alone.
 pub fn predict(
     r: Record,
     text: &[u8],
@@ -21,14 +22,12 @@ pub fn predict(
     cell_lengths: &[u16],
     tag_bytes: &[u8],
     scores: &[i32],
-) -> Answer
-    ensures { Predicted r (lent_before text.now types.now boundaries.old char_pos.now byte_pos.now cell_starts.now cell_lengths.now tag_bytes.now)
-        scores.now result
-        (with_boundaries boundaries.new
-        (lent_before text.now types.now boundaries.old char_pos.now byte_pos.now cell_starts.now cell_lengths.now tag_bytes.now)) }
+) -> Result<Record, Refusal>
+    ensures { let d = lent_before text.now types.now boundaries.old char_pos.now byte_pos.now cell_starts.now cell_lengths.now tag_bytes.now in
+        Predicted r d scores.now result (with_boundaries boundaries.new d) }
 {
-    if !sheet::check(
-        r,
+    let sheet = Sheet {
+        record: r,
         text,
         types,
         boundaries,
@@ -37,11 +36,12 @@ pub fn predict(
         cell_starts,
         cell_lengths,
         tag_bytes,
-    ) {
-        return Answer::Refused(NO_SHEET);
+    };
+    if !sheet.check() {
+        return Err(NO_SHEET);
     }
     if scores.len() != r.n - 1 {
-        return Answer::Refused(Refusal::outside(scores.len()));
+        return Err(Refusal::outside(scores.len()));
     }
     unchecked::predict(
         r,

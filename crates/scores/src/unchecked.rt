@@ -5,13 +5,14 @@ ghost use Rattle.sentence.specs.Writing.{decision, scored};
 ghost use Rattle.sheet.specs.Layout.{spell, Sheet, lent, lent_before, with_boundaries};
 ghost use Rattle.changes.specs.Changes.{Laid};
 
-use sheet::{Answer, Record};
+use sentence::Refusal;
+use sheet::Record;
 
 // The number of the boundary that a score makes.
 fn decide(score: i32) -> u8
     ensures { result ≡ code (decision score) }
 {
-    if score > 0 { 1 } else { 0 }
+    u8::from(score > 0)
 }
 
 // Each score decides the boundary at its place.
@@ -20,14 +21,14 @@ fn fill(scores: &[i32], boundaries: &mut [u8])
     ensures { boundaries.new
         ≡ map code (map decision scores.now) ++ drop (length scores.now) boundaries.old }
 {
-    let mut i = 0;
-    while i < scores.len() {
-        boundaries[i] = decide(scores[i]);
-        i += 1;
+    // By index, since what a zip over `iter_mut` wrote is not known after it.
+    for (i, score) in scores.iter().enumerate() {
+        boundaries[i] = decide(*score);
     }
 }
 
 // Sets every boundary by its score; tags and columns become none.
+// The buffers come one by one, since the others may be lent to be read alone.
 pub fn predict(
     r: Record,
     text: &[u8],
@@ -39,21 +40,17 @@ pub fn predict(
     cell_lengths: &[u16],
     tag_bytes: &[u8],
     scores: &[i32],
-) -> Answer
+) -> Result<Record, Refusal>
     requires { Sheet r (lent text.now types.now boundaries.old char_pos.now byte_pos.now cell_starts.now cell_lengths.now tag_bytes.now) ×
         (length scores.now ≡ r.n - 1) }
-    ensures { Laid
-        (scored scores.now (spell r (lent_before text.now types.now boundaries.old char_pos.now byte_pos.now cell_starts.now cell_lengths.now tag_bytes.now)))
-        (lent_before text.now types.now boundaries.old char_pos.now byte_pos.now cell_starts.now cell_lengths.now tag_bytes.now) result
-        (with_boundaries boundaries.new
-        (lent_before text.now types.now boundaries.old char_pos.now byte_pos.now cell_starts.now cell_lengths.now tag_bytes.now)) }
+    ensures { let d = lent_before text.now types.now boundaries.old char_pos.now byte_pos.now cell_starts.now cell_lengths.now tag_bytes.now in
+        Laid (scored scores.now (spell r d)) d result (with_boundaries boundaries.new d) }
 {
     fill(scores, boundaries);
-    Answer::Sentence(Record {
-        n: r.n,
-        b: r.b,
+    Ok(Record {
         columns: 0,
         cells: 0,
         g: 0,
+        ..r
     })
 }

@@ -11,3 +11,4 @@ pub mod Joined
 pub mod Lone
 pub mod Accepted
 pub mod Apart
+pub mod Reasons

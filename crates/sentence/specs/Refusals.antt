@@ -1,21 +1,66 @@
 -- The refusals of a call, in their order. Which is given is the first whose test is true.
-use Rattle.std.specs.Prelude.{ℕ, ◌+◌, ◌*◌, ◌^◌, ◌<◌, Bool, true, List, [], ◌∷◌}
+use Rattle.std.specs.Prelude.{ℕ, ◌+◌, ◌-◌, ◌*◌, ◌^◌, ◌<◌, Bool, true, List, [], ◌∷◌, get_or, Ok, Err}
 use Rattle.laws.specs.If.{when◌then◌else◌}
 use Rattle.sentence.specs.declared.Refusal.{Refusal}
+use Rattle.sentence.specs.declared.Reason.{Reason}
+use Rattle.sentence.specs.declared.Reason.TheVariants.{TooLong, NotUtf8, NoCharacter, Nul, LeadingSpace, SecondSpace, StraySlash, TrailingSpace}
+use Rattle.sentence.specs.declared.Reason.TheVariants.{BadMark, TrailingMark, NoRoom, Short, NoSheet, Outside, NoBlankRoom, NoForm}
+use Rattle.std.specs.Prelude as prelude
+use Rattle.sentence.specs.declared.Form.{Form}
+use Rattle.sentence.specs.Forms.{no_reader, no_writer, form_of}
 use Rattle.sentence.specs.Sentence.{Sentence}
 use Rattle.sentence.specs.Reading.{Result, sentence, refused}
 
+-- the reasons in the order of their numbers, from 1 on
+abbrev pub reasons : List Reason
+reasons =
+    TooLong ∷ NotUtf8 ∷ NoCharacter ∷ Nul ∷ LeadingSpace ∷ SecondSpace ∷ StraySlash ∷ TrailingSpace
+    ∷ BadMark ∷ TrailingMark ∷ NoRoom ∷ Short ∷ NoSheet ∷ Outside ∷ NoBlankRoom ∷ NoForm ∷ []
+
+-- the reason of a number, and the number of a reason
+abbrev pub reason_of : ℕ → Reason
+reason_of n = get_or reasons (n - 1) NoForm
+
+abbrev pub reason_number : Reason → ℕ
+reason_number TooLong = 1
+reason_number NotUtf8 = 2
+reason_number NoCharacter = 3
+reason_number Nul = 4
+reason_number LeadingSpace = 5
+reason_number SecondSpace = 6
+reason_number StraySlash = 7
+reason_number TrailingSpace = 8
+reason_number BadMark = 9
+reason_number TrailingMark = 10
+reason_number NoRoom = 11
+reason_number Short = 12
+reason_number NoSheet = 13
+reason_number Outside = 14
+reason_number NoBlankRoom = 15
+reason_number NoForm = 16
+
 -- a number and its place
 abbrev pub refusal : ℕ → ℕ → Refusal
-refusal n p = record { number = n; place = p }
+refusal n p = record { reason = reason_of n; place = p }
+
+-- the number of a refusal
+abbrev pub number : Refusal → ℕ
+number r = reason_number r.reason
 
 -- a refusal as the host's number: 2^63 plus 256 times its place plus its number
 unfoldable pub refusal_code : Refusal → ℕ
-refusal_code r = 2 ^ 63 + 256 * r.place + r.number
+refusal_code r = 2 ^ 63 + 256 * r.place + number r
 
 -- its place is small, so that this number fits 64 bits
 abbrev pub Near : Refusal → Type 0
 Near r = r.place < 2 ^ 32
+
+-- the form to read and the form to write of a number, or 16
+unfoldable pub reader_of : ℕ → prelude.Result Form Refusal
+reader_of n = when no_reader n then Err (refusal 16 0) else Ok (form_of n)
+
+unfoldable pub writer_of : ℕ → prelude.Result Form Refusal
+writer_of n = when no_writer n then Err (refusal 16 0) else Ok (form_of n)
 
 -- a test, and the number and place of the refusal where it is true
 pub data Check : Type 0 where

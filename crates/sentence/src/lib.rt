@@ -4,74 +4,119 @@
 pub mod unchecked; // unchecked.rt: for a refusal at a small place
 
 ghost use Rattle.std.specs.Prelude.{◌≡◌};
-ghost use Rattle.sentence.specs.Forms.{no_reader, no_writer, form_of};
-ghost use Rattle.sentence.specs.Refusals.{refusal};
+ghost use Rattle.sentence.specs.Refusals.{reason_number, refusal, reader_of, writer_of};
 
 // The form of a line.
-#[derive(Clone, Copy)]
+#[derive(Clone, Copy, PartialEq, Eq)]
 pub enum Form {
     Raw,
     Tokenized,
     Partial,
 }
 
-impl Form {
-    // Whether a number is no form.
-    pub fn no_reader(number: u32) -> bool
-        ensures { result ≡ no_reader number }
-    {
-        2 < number
-    }
+// The form to read of a number: 0 raw, 1 tokenized, 2 partial.
+impl TryFrom<u32> for Form {
+    type Error = Refusal;
 
-    // Whether a number is no form to write.
-    pub fn no_writer(number: u32) -> bool
-        ensures { result ≡ no_writer number }
-    {
-        (number == 0) | (2 < number)
-    }
+    ghost try_from_gives = { λ number form. form ≡ reader_of number };
 
-    // The form of a number: 0 raw, 1 tokenized, 2 partial; callers refuse every other number before.
-    pub fn of(number: u32) -> Form
-        ensures { result ≡ form_of number }
-    {
-        if number == 0 {
-            return Form::Raw;
+    fn try_from(number: u32) -> Result<Self, Refusal> {
+        match number {
+            0 => Ok(Form::Raw),
+            1 => Ok(Form::Tokenized),
+            2 => Ok(Form::Partial),
+            _ => Err(NO_FORM),
         }
-        if number == 1 {
-            return Form::Tokenized;
-        }
-        Form::Partial
     }
 }
 
-// A refusal: its number in the table of refusals, and its place.
-#[derive(Clone, Copy)]
+impl Form {
+    // The form to write of a number: 1 tokenized, 2 partial.
+    pub fn to_write(number: u32) -> Result<Form, Refusal>
+        ensures { result ≡ writer_of number }
+    {
+        match Form::try_from(number)? {
+            Form::Raw => Err(NO_FORM),
+            form => Ok(form),
+        }
+    }
+}
+
+// Why a call is refused.
+#[derive(Clone, Copy, PartialEq, Eq)]
+pub enum Reason {
+    TooLong,
+    NotUtf8,
+    NoCharacter,
+    Nul,
+    LeadingSpace,
+    SecondSpace,
+    StraySlash,
+    TrailingSpace,
+    BadMark,
+    TrailingMark,
+    NoRoom,
+    Short,
+    NoSheet,
+    Outside,
+    NoBlankRoom,
+    NoForm,
+}
+
+impl Reason {
+    // Its number in the table of refusals.
+    pub fn number(self) -> u8
+        ensures { result ≡ reason_number self }
+    {
+        match self {
+            Reason::TooLong => 1,
+            Reason::NotUtf8 => 2,
+            Reason::NoCharacter => 3,
+            Reason::Nul => 4,
+            Reason::LeadingSpace => 5,
+            Reason::SecondSpace => 6,
+            Reason::StraySlash => 7,
+            Reason::TrailingSpace => 8,
+            Reason::BadMark => 9,
+            Reason::TrailingMark => 10,
+            Reason::NoRoom => 11,
+            Reason::Short => 12,
+            Reason::NoSheet => 13,
+            Reason::Outside => 14,
+            Reason::NoBlankRoom => 15,
+            Reason::NoForm => 16,
+        }
+    }
+}
+
+// A refusal: why, and at which place.
+#[derive(Clone, Copy, PartialEq, Eq)]
 pub struct Refusal {
-    pub number: u8,
+    pub reason: Reason,
     pub place: usize,
 }
 
 // The buffers have no room for the sentence that was read.
 pub const NO_ROOM: Refusal = Refusal {
-    number: 11,
+    reason: Reason::NoRoom,
     place: 0,
 };
 
 // The record and its buffers are no sheet.
 pub const NO_SHEET: Refusal = Refusal {
-    number: 13,
+    reason: Reason::NoSheet,
     place: 0,
 };
 
 // The buffers have no room for the one-blank sentence, which an update leaves where it is refused.
 pub const NO_BLANK_ROOM: Refusal = Refusal {
-    number: 15,
+    reason: Reason::NoBlankRoom,
     place: 0,
 };
 
 // A number is no form, or no form to write.
 pub const NO_FORM: Refusal = Refusal {
-    number: 16,
+    reason: Reason::NoForm,
     place: 0,
 };
 
@@ -81,7 +126,7 @@ impl Refusal {
         ensures { result ≡ refusal 12 needed }
     {
         Refusal {
-            number: 12,
+            reason: Reason::Short,
             place: needed,
         }
     }
@@ -91,7 +136,7 @@ impl Refusal {
         ensures { result ≡ refusal 14 first }
     {
         Refusal {
-            number: 14,
+            reason: Reason::Outside,
             place: first,
         }
     }

@@ -9,5 +9,5 @@ pub fn refusal_code(r: Refusal) -> u64
     requires { Near r }
     ensures { result ≡ refusal_code r }
 {
-    9223372036854775808 + 256 * r.place as u64 + r.number as u64
+    9223372036854775808 + 256 * r.place as u64 + u64::from(r.reason.number())
 }

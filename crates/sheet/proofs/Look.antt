@@ -1,4 +1,5 @@
 -- What buffers that hold a sentence have at an index, for those that go through it character by character and tag by tag. Assumes nothing.
+use Rattle.std.specs.Prelude.{Result, Err}
 use Prim.Native.Nat.{ℕ, zero, suc, ◌+◌, ◌-◌, ◌*◌, ◌≤◌, ◌<◌}
 use native.Mathlib.Nat.{mul-le-mul_right}
 use native.Mathlib.Numerals.{add-one}
@@ -22,7 +23,7 @@ use Rattle.sentence.specs.Refusals.{refusal, Check, check, verdict, sheet_order}
 use Rattle.sentence.specs.Writing.{surface}
 use Rattle.sentence.proofs.Trips.{pad_length}
 use Rattle.sheet.specs.declared.Record.{Record}
-use Rattle.sheet.specs.Layout.{Buffers, takes, AtLeast, cells_of, cell_starts, bytes_of, Holds, Sheet, mark_of}
+use Rattle.sheet.specs.Layout.{Buffers, takes, AtLeast, cells_of, cell_starts, bytes_of, Holds, Sheet, mark_of, spell}
 use Rattle.sheet.specs.Check.{is_sheet}
 use Rattle.sheet.proofs.Exact.{is_sheet_lem}
 use Rattle.sheet.proofs.Eights.{every, one}
@@ -384,18 +385,28 @@ module _ {r : Record} {d : Buffers} {s : Sentence} (h : Holds r d s) where
       omega (arith, bounds, (all_at (Row s.columns) [] (rows s) i (rows_held h) (omega (arith, bounds))).fits)
 
 -- ---- the answers of a call that goes by whether there is a sheet: g is what the check answered, `out` whether a number is out of range
-module _ {A : Type 0} (refuse : Refusal → A) (g good out : Bool) (first : ℕ) (served : A) (e : g ≡ good) where
-  pub broken : not g ≡ true → refuse (refusal 13 0) ≡ verdict refuse (sheet_order (not good) out first false 0) served
-  unfolding verdict when◌then◌else◌
-  broken h = rw (← e, h)
+pub refuses_13 : {A : Type 0} (r : Record) (d : Buffers) (g out : Bool) (first : ℕ) (served : Result A Refusal) → g ≡ is_sheet r d → g ≡ false
+    → Err (refusal 13 0) ≡ verdict Err (sheet_order (not (is_sheet r d)) out first false 0) served
+unfolding verdict when◌then◌else◌
+refuses_13 r d g out first served e h = rw (← e, h)
 
-  pub outside : not g ≡ false → out ≡ true → refuse (refusal 14 first) ≡ verdict refuse (sheet_order (not good) out first false 0) served
-  unfolding verdict when◌then◌else◌
-  outside h o = rw (← e, h, o)
+-- the check found a sheet
+pub record Found (r : Record) (d : Buffers) : Type 0 where
+  pub sheet : Sheet r d
+  pub is : is_sheet r d ≡ true
+  pub limits : Bounds r d (spell r d)
 
-  pub inside : not g ≡ false → out ≡ false → (a : A) → a ≡ served → a ≡ verdict refuse (sheet_order (not good) out first false 0) served
+pub found : (r : Record) (d : Buffers) (g : Bool) → g ≡ is_sheet r d → g ≡ true → Found r d
+found r d g e h = let k = is_sheet_lem r d (sym e ∙ h) in record { sheet = k; is = sym e ∙ h; limits = bounds k }
+
+module _ {A : Type 0} {r : Record} {d : Buffers} (f : Found r d) (out : Bool) (first : ℕ) (served : Result A Refusal) where
+  pub refuses_14 : {u : Refusal} → u ≡ refusal 14 first → out ≡ true → Err u ≡ verdict Err (sheet_order (not (is_sheet r d)) out first false 0) served
   unfolding verdict when◌then◌else◌
-  inside h o a s = s ∙ rw (← e, h, o)
+  refuses_14 i o = rw (f.is, o) (ap Err i)
+
+  pub serves : {a : Result A Refusal} → out ≡ false → a ≡ served → a ≡ verdict Err (sheet_order (not (is_sheet r d)) out first false 0) served
+  unfolding verdict when◌then◌else◌
+  serves o i = rw (f.is, o) i
 
 -- what a check that was passed says
 pub checked : (r : Record) (d : Buffers) (g : Bool) → g ≡ is_sheet r d → not g ≡ false → Sheet r d

@@ -76,13 +76,13 @@ module _ (r : Record) (d : Buffers) where
       laid_is cells-ok m-ok e = rw (← t, not-false text-ok t-ok, ← m, not-false marks-ok m-ok) e
 
   module _ (ok : Bool) (e : ok ≡ (in_limits r && room_for r d)) where
-    pub no_fit : not ok ≡ true → false ≡ is_sheet r d
+    pub no_fit : ok ≡ false → ok ≡ is_sheet r d
     unfolding is_sheet
-    no_fit t = rw (← e, not-true ok t)
+    no_fit t = t ∙ (rw (← e, t))
 
-    pub room_met : not ok ≡ false → Room r d
-    room_met t = let k = (and-eq-true_iff (in_limits r) (room_for r d)).0 (sym e ∙ not-false ok t) in room_is r d k.0 k.1
+    pub room_met : ok ≡ true → Room r d
+    room_met t = let k = (and-eq-true_iff (in_limits r) (room_for r d)).0 (sym e ∙ t) in room_is r d k.0 k.1
 
-    pub sheet_is : (laid : Bool) → not ok ≡ false → laid ≡ is_laid r d → laid ≡ is_sheet r d
+    pub sheet_is : (laid : Bool) → ok ≡ true → laid ≡ is_laid r d → laid ≡ is_sheet r d
     unfolding is_sheet
-    sheet_is laid t q = rw (← e, not-false ok t) q
+    sheet_is laid t q = rw (← e, t) q

@@ -3,3 +3,5 @@ pub mod Layout
 pub mod Listed
 pub mod Check
 pub mod Worked
+pub mod Answers
+pub mod Views

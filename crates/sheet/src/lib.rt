@@ -2,10 +2,9 @@
 #![tactic(auto)]
 
 ghost use Rattle.std.specs.Prelude.{◌≡◌, ◌&&◌};
-ghost use Rattle.sheet.specs.Layout.{room_for, lent, lent_before};
-ghost use Rattle.sheet.specs.Check.{in_limits, is_laid, Room, is_sheet};
-
-use sentence::Refusal;
+ghost use Rattle.sheet.specs.Layout.{room_for};
+ghost use Rattle.sheet.specs.Check.{in_limits, is_laid, Room};
+ghost use Rattle.sheet.specs.Views.{held, is_valid};
 
 // How much of the buffers a sentence takes: characters, text bytes, tag columns, cells (characters times columns), tag bytes.
 #[derive(Clone, Copy)]
@@ -17,134 +16,112 @@ pub struct Record {
     pub g: usize,
 }
 
-// What a call answers that leaves a sentence in the buffers.
+// How much the one-blank sentence takes.
+pub const ONE_BLANK: Record = Record {
+    n: 1,
+    b: 1,
+    columns: 0,
+    cells: 0,
+    g: 0,
+};
+
+// A slice of a buffer: where it starts, and where it ends.
 #[derive(Clone, Copy)]
-pub enum Answer {
-    Sentence(Record),
-    Refused(Refusal),
+pub struct Span {
+    pub start: usize,
+    pub end: usize,
 }
 
-// What a call answers that asks for a number.
+// A record beside the eight buffers that are to hold its sentence.
 #[derive(Clone, Copy)]
-pub enum Number {
-    Is(usize),
-    Refused(Refusal),
+pub struct Sheet<'a> {
+    pub record: Record,
+    pub text: &'a [u8],
+    pub types: &'a [u8],
+    pub boundaries: &'a [u8],
+    pub char_pos: &'a [u16],
+    pub byte_pos: &'a [u16],
+    pub cell_starts: &'a [u16],
+    pub cell_lengths: &'a [u16],
+    pub tag_bytes: &'a [u8],
 }
 
-// What a call answers that asks for bytes of a buffer; an absent tag has none.
-#[derive(Clone, Copy)]
-pub enum Slice {
-    Bytes { start: usize, end: usize },
-    Absent,
-    Refused(Refusal),
+// Eight buffers to be filled with a sentence.
+#[derive(Drop)]
+pub struct Buffers<'a> {
+    pub text: &'a mut [u8],
+    pub types: &'a mut [u8],
+    pub boundaries: &'a mut [u8],
+    pub char_pos: &'a mut [u16],
+    pub byte_pos: &'a mut [u16],
+    pub cell_starts: &'a mut [u16],
+    pub cell_lengths: &'a mut [u16],
+    pub tag_bytes: &'a mut [u8],
 }
 
-// The limits on what a record counts.
-fn in_limits(r: Record) -> bool
-    ensures { result ≡ in_limits r }
-{
-    if !((1 <= r.n) & (r.n <= r.b) & (r.b <= 4096) & (r.columns <= 4096) & (r.g <= 65535)) {
-        return false;
+impl Record {
+    // The limits on what a record counts.
+    fn in_limits(self) -> bool
+        ensures { result ≡ in_limits self }
+    {
+        if !((1 <= self.n)
+            & (self.n <= self.b)
+            & (self.b <= 4096)
+            & (self.columns <= 4096)
+            & (self.g <= 65535))
+        {
+            return false;
+        }
+        self.cells == self.n * self.columns
     }
-    r.cells == r.n * r.columns
 }
 
-// The limits, and room for what a record counts.
-fn fits(
-    r: Record,
-    text: &[u8],
-    types: &[u8],
-    boundaries: &[u8],
-    char_pos: &[u16],
-    byte_pos: &[u16],
-    cell_starts: &[u16],
-    cell_lengths: &[u16],
-    tag_bytes: &[u8],
-) -> bool
-    ensures { result ≡ (in_limits r && room_for r
-        (lent_before text.now types.now boundaries.now char_pos.now byte_pos.now cell_starts.now cell_lengths.now tag_bytes.now)) }
-{
-    in_limits(r)
-        & ((r.b <= text.len())
-            & (r.n <= types.len())
-            & (r.n <= boundaries.len() + 1)
-            & (r.n < char_pos.len())
-            & (r.b < byte_pos.len())
-            & (r.cells <= cell_starts.len())
-            & (r.cells <= cell_lengths.len())
-            & (r.g <= tag_bytes.len()))
-}
+impl Sheet<'_> {
+    // The limits, and room for what the record counts.
+    fn fits(&self) -> bool
+        ensures { result ≡ (in_limits self.now.record && room_for self.now.record (held self.now)) }
+    {
+        let r = self.record;
+        r.in_limits()
+            & ((r.b <= self.text.len())
+                & (r.n <= self.types.len())
+                & (r.n <= self.boundaries.len() + 1)
+                & (r.n < self.char_pos.len())
+                & (r.b < self.byte_pos.len())
+                & (r.cells <= self.cell_starts.len())
+                & (r.cells <= self.cell_lengths.len())
+                & (r.g <= self.tag_bytes.len()))
+    }
 
-// What the record counts of the buffers, one by one.
-fn is_laid(
-    r: Record,
-    text: &[u8],
-    types: &[u8],
-    boundaries: &[u8],
-    char_pos: &[u16],
-    byte_pos: &[u16],
-    cell_starts: &[u16],
-    cell_lengths: &[u16],
-    tag_bytes: &[u8],
-) -> bool
-    requires { Room r (lent text.now types.now boundaries.now char_pos.now byte_pos.now cell_starts.now cell_lengths.now tag_bytes.now) }
-    ensures { result ≡ is_laid r (lent_before text.now types.now boundaries.now char_pos.now byte_pos.now cell_starts.now cell_lengths.now tag_bytes.now) }
-{
-    if !sheet_check::is_text(
-        &text[..r.b],
-        &types[..r.n],
-        &char_pos[..r.n + 1],
-        &byte_pos[..r.b + 1],
-    ) {
-        return false;
+    // What the record counts of the buffers, one by one.
+    fn is_laid(&self) -> bool
+        requires { Room self.now.record (held self.now) }
+        ensures { result ≡ is_laid self.now.record (held self.now) }
+    {
+        let r = self.record;
+        if !sheet_check::is_text(
+            &self.text[..r.b],
+            &self.types[..r.n],
+            &self.char_pos[..r.n + 1],
+            &self.byte_pos[..r.b + 1],
+        ) {
+            return false;
+        }
+        if !sheet_check::are_marks(&self.boundaries[..r.n - 1]) {
+            return false;
+        }
+        sheet_check::are_cells(
+            r.columns,
+            &self.tag_bytes[..r.g],
+            &self.cell_starts[..r.cells],
+            &self.cell_lengths[..r.cells],
+        )
     }
-    if !sheet_check::are_marks(&boundaries[..r.n - 1]) {
-        return false;
-    }
-    sheet_check::are_cells(
-        r.columns,
-        &tag_bytes[..r.g],
-        &cell_starts[..r.cells],
-        &cell_lengths[..r.cells],
-    )
-}
 
-// Whether the record and the buffers are a sheet: a sentence as laid out, within the limits.
-pub fn check(
-    r: Record,
-    text: &[u8],
-    types: &[u8],
-    boundaries: &[u8],
-    char_pos: &[u16],
-    byte_pos: &[u16],
-    cell_starts: &[u16],
-    cell_lengths: &[u16],
-    tag_bytes: &[u8],
-) -> bool
-    ensures { result ≡ is_sheet r (lent_before text.now types.now boundaries.now char_pos.now byte_pos.now cell_starts.now cell_lengths.now tag_bytes.now) }
-{
-    if !fits(
-        r,
-        text,
-        types,
-        boundaries,
-        char_pos,
-        byte_pos,
-        cell_starts,
-        cell_lengths,
-        tag_bytes,
-    ) {
-        return false;
+    // Whether the record and the buffers are a sheet: a sentence as laid out, within the limits.
+    pub fn check(&self) -> bool
+        ensures { result ≡ is_valid self.now }
+    {
+        self.fits() && self.is_laid()
     }
-    is_laid(
-        r,
-        text,
-        types,
-        boundaries,
-        char_pos,
-        byte_pos,
-        cell_starts,
-        cell_lengths,
-        tag_bytes,
-    )
 }

@@ -1,18 +1,18 @@
 -- What the passes over the cells need of their tests: cells one after another, a row of them, and a row without tags. Assumes nothing.
 use Prim.Native.Nat.{ℕ, zero, suc, ◌+◌, ◌-◌, ◌≤◌, ◌<◌}
 use native.Mathlib.Omega.{arith}
-use mathlib.Core.Path.{◌≡◌, refl, sym, ◌∙◌}
+use mathlib.Core.Path.{◌≡◌, refl, sym, ap, ◌∙◌}
+use mathlib.Core.Logic.{◌⊎◌, inl, inr}
 use mathlib.Core.Bool.{Bool, true, false, not, ◌&&◌, false≢true, and_assoc, and-true, and-false, and-eq-true_iff}
 use mathlib.Core.List.{List, [], ◌∷◌}
 use borrow.Author.Tests.{eq-eqb, eqb-true, ne_eqb, eqb-false, le-leb, lt-leb, not-true, not-false}
 use lib.Dec.{eqb, eqb-suc-zero}
 use lib.ListN.{length, take, drop, get_or, length-take, length-drop}
 use lib.Seq.{take_all, drop-drop, get_or-drop}
-use Rattle.laws.specs.Put.{drop_step, drop_none}
 use Rattle.laws.proofs.Facts.{reads, untrue}
 use Rattle.utf8.specs.Utf8.{walk, wholes, values}
 use Rattle.sheet_check.specs.Passes.{no_nul, is_plain, is_cell, cells_to, are_cells, are_absent, Row}
-use Rattle.sheet_check.proofs.Steps.{Left}
+use Rattle.sheet_check.proofs.Steps.{Left, left_all}
 
 -- ---- a cell, test by test; the premises are as `is_cell` has them
 module _ (s : List ℕ) (g b l : ℕ) where
@@ -32,7 +32,7 @@ module _ (s : List ℕ) (g b l : ℕ) where
   unfolding is_cell
   cell_plain r h k p = let e : g + l - g ≡ l = omega arith in rw (eq-eqb b g h, le-leb (g + l) (length s) k) (rw e at p)
 
-  cell_within : is_cell s g b l ≡ true → g + l ≤ length s
+  pub cell_within : is_cell s g b l ≡ true → g + l ≤ length s
   unfolding is_cell
   cell_within = simp reads (omega arith)
 
@@ -90,45 +90,56 @@ pub cells_uneven : (s bs ls : List ℕ) → (length bs ≡ length ls → ⊥) �
 unfolding are_cells
 cells_uneven s bs ls h = sym (untrue (are_cells s 0 bs ls) (λ e. h (cells_long s (length s) 0 bs ls e)))
 
--- ---- cells one by one, of which i are passed, up to byte g
-pub record Celled (s bs ls : List ℕ) (from e g i : ℕ) : Type 0 where
-  pub is : cells_to s e from bs ls ≡ cells_to s e g (drop i bs) (drop i ls)
+none_left : (xs : List ℕ) → length xs ≡ 0 → xs ≡ []
+none_left [] h = refl
+none_left (x ∷ xs) h = absurd (omega arith)
+
+-- ---- cells one by one: what is left is to start at byte g, bs and ls are its starts and lengths
+pub record Celled (s starts lengths : List ℕ) (from e g : ℕ) (bs ls : List ℕ) : Type 0 where
+  pub is : cells_to s e from starts lengths ≡ cells_to s e g bs ls
   pub inside : g ≤ length s
+  pub even : length bs ≡ length ls
 
-module _ (s bs ls : List ℕ) (from e : ℕ) (p : Row from s bs ls) where
-  pub cells_start : Celled s bs ls from e from 0
-  cells_start = record { is = refl; inside = p.inside }
+module _ (s starts lengths : List ℕ) (from e : ℕ) where
+  module _ (g : ℕ) (bs ls : List ℕ) (h : Celled s starts lengths from e g bs ls) where
+    module _ (b : ℕ) (bs' : List ℕ) (l : ℕ) (ls' : List ℕ) (p : bs ≡ b ∷ bs') (q : ls ≡ l ∷ ls') (ok : Bool) (o : ok ≡ is_cell s g b l) where
+      cells_step : cells_to s e from starts lengths ≡ (ok && cells_to s e (g + l) bs' ls')
+      unfolding cells_to
+      cells_step = h.is ∙ rw (p, q, o)
 
-  module _ (g i : ℕ) (h : Celled s bs ls from e g i) where
-    cells_step : i < length ls
-        → cells_to s e from bs ls ≡ (is_cell s g (get_or bs i 0) (get_or ls i 0) && cells_to s e (g + get_or ls i 0) (drop (i + 1) bs) (drop (i + 1) ls))
+      pub cells_go : not ok ≡ false → Celled s starts lengths from e (g + l) bs' ls'
+      cells_go t =
+          let k = not-false ok t in
+          record {
+            is = cells_step ∙ rw k;
+            inside = cell_within s g b l (sym o ∙ k);
+            even = omega (arith, h.even, ap length p, ap length q);
+          }
+
+      pub cells_no : not ok ≡ true → false ≡ cells_to s e from starts lengths
+      cells_no t = sym (cells_step ∙ rw (not-true ok t))
+
+    pub cells_done : (bs ≡ []) ⊎ (ls ≡ []) → eqb g e ≡ cells_to s e from starts lengths
     unfolding cells_to
-    cells_step k = h.is ∙ rw (drop_step i bs (omega (arith, p.even)), drop_step i ls k)
+    cells_done (inl p) = let q : ls ≡ [] = none_left ls (omega (arith, h.even, ap length p)) in sym (h.is ∙ rw (p, q))
+    cells_done (inr q) = let p : bs ≡ [] = none_left bs (omega (arith, h.even, ap length q)) in sym (h.is ∙ rw (p, q))
 
-    pub cells_go : (ok : Bool) → i < length ls → ok ≡ is_cell s g (get_or bs i 0) (get_or ls i 0) → not ok ≡ false
-        → Celled s bs ls from e (g + get_or ls i 0) (i + 1)
-    cells_go ok k q t =
-        let o : is_cell s g (get_or bs i 0) (get_or ls i 0) ≡ true = sym q ∙ not-false ok t in
-        record { is = cells_step k ∙ rw o; inside = cell_within s g (get_or bs i 0) (get_or ls i 0) o }
-
-    pub cells_no : (ok : Bool) → i < length ls → ok ≡ is_cell s g (get_or bs i 0) (get_or ls i 0) → not ok ≡ true
-        → false ≡ cells_to s e from bs ls
-    cells_no ok k q t = sym (cells_step k ∙ rw (← q, not-true ok t))
-
-    pub cells_done : length ls ≤ i → eqb g e ≡ cells_to s e from bs ls
-    unfolding cells_to
-    cells_done k = sym (h.is ∙ rw (drop_none i bs (omega (arith, p.even)), drop_none i ls k))
-
--- ---- absent cells
-module _ (g : ℕ) (bs ls : List ℕ) where
-  pub absent_go : (w ok : Bool) (i : ℕ) → length bs ≡ length ls → i < length ls → Left w (ok && are_absent g (drop i bs) (drop i ls))
-      → Left w (((ok && eqb (get_or bs i 0) g) && eqb (get_or ls i 0) 0) && are_absent g (drop (i + 1) bs) (drop (i + 1) ls))
+-- ---- absent cells: what is left of them
+module _ (g : ℕ) (w ok : Bool) (bs ls : List ℕ) (h : Left w (ok && are_absent g bs ls)) where
+  pub absent_go : (b : ℕ) (bs' : List ℕ) (l : ℕ) (ls' : List ℕ) → bs ≡ b ∷ bs' → ls ≡ l ∷ ls'
+      → Left w ((ok && (eqb b g && eqb l 0)) && are_absent g bs' ls')
   unfolding are_absent
-  absent_go w ok i n k h = record { is = h.is ∙ rw (drop_step i bs (omega arith), drop_step i ls k) (simp and_assoc) }
+  absent_go b bs' l ls' p q = record { is = h.is ∙ rw (p, q) (simp and_assoc) }
 
-  pub absent_done : (i : ℕ) → length bs ≡ length ls → length ls ≤ i → are_absent g (drop i bs) (drop i ls) ≡ true
+  pub absent_done : (bs ≡ []) ⊎ (ls ≡ []) → ok ≡ w
   unfolding are_absent
-  absent_done i n k = rw (drop_none i bs (omega arith))
+  absent_done (inl p) = left_all w ok _ h (rw p)
+  absent_done (inr q) = left_all w ok _ h (none bs ls q)
+    where
+      none : (bs ls : List ℕ) → ls ≡ [] → are_absent g bs ls ≡ true
+      none [] ls q = refl
+      none (b ∷ bs) [] q = refl
+      none (b ∷ bs) (l ∷ ls) q = cc
 
 -- cells that end where they start are absent
 absent_cells : (s : List ℕ) (g : ℕ) (bs ls : List ℕ) → g ≤ length s → length bs ≡ length ls → cells_to s g g bs ls ≡ are_absent g bs ls

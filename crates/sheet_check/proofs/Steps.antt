@@ -2,12 +2,15 @@
 use Prim.Native.Nat.{ℕ, zero, suc, ◌+◌, ◌-◌, ◌≤◌, ◌<◌}
 use native.Mathlib.Omega.{arith}
 use mathlib.Core.Path.{◌≡◌, refl, sym, ap, ◌∙◌}
-use mathlib.Core.Bool.{Bool, true, false, not, ◌&&◌, and_assoc, and-true, and-false}
+use mathlib.Core.Logic.{◌⊎◌, inl, inr}
+use mathlib.Core.Bool.{Bool, true, false, false≢true, and-eq-true_iff, not, ◌&&◌, and_assoc, and-true, and-false}
 use mathlib.Core.List.{List, [], ◌∷◌, ◌++◌}
 use borrow.Author.Tests.{eq-eqb, eqb-true, ne_eqb, eqb-false, not-true, not-false}
 use lib.Dec.{eqb, leb, eqb-zero-suc, eqb-suc-zero}
 use lib.ListN.{length, take, drop, get_or, length-take, length-drop, replicate}
 use lib.Seq.{drop-drop}
+use Rattle.std.specs.Prelude.{IsTrue, All, ◌↔◌}
+use Rattle.laws.proofs.Facts.{untrue}
 use Rattle.laws.specs.If.{when◌then◌else◌}
 use Rattle.laws.specs.Put.{drop_step, drop_none}
 use Rattle.utf8.specs.declared.Decoded.{Decoded}
@@ -35,53 +38,21 @@ zeros_take : (m : ℕ) (d : List ℕ) (i : ℕ) → i < length d → zeros (take
 unfolding zeros
 zeros_take m d i h = rw (drop_step i d h)
 
--- the inner bytes of a character, one after another
-module _ (d : List ℕ) (at n : ℕ) (f : (1 ≤ n) × (n ≤ 4) × (at + n ≤ length d)) where
-  pub inner_one : n ≡ 1 → true ≡ zeros (take (at + n - (at + 1)) (drop (at + 1) d))
-  unfolding zeros
-  inner_one h = let k : at + n - (at + 1) ≡ 0 = omega arith in rw k
+-- nothing but 0, as a test and as a fact of each
+zeros_each : (d : List ℕ) → zeros d ≡ true → All (λ x. x ≡ 0) d
+unfolding zeros
+zeros_each [] e k d l = absurd (omega arith)
+zeros_each (x ∷ xs) e zero d l = eqb-true x 0 ((and-eq-true_iff (eqb x 0) (zeros xs)).0 e).0
+zeros_each (x ∷ xs) e (suc k) d l = zeros_each xs ((and-eq-true_iff (eqb x 0) (zeros xs)).0 e).1 k d (omega arith)
 
-  inner_first : 2 ≤ n → zeros (take (at + n - (at + 1)) (drop (at + 1) d)) ≡ (eqb (get_or d (at + 1) 0) 0 && zeros (take (n - 2) (drop (at + 2) d)))
-  inner_first h =
-      let k : at + n - (at + 1) ≡ suc (n - 2) = omega arith in
-      let m : at + 1 + 1 ≡ at + 2 = omega arith in
-      rw k (zeros_take (n - 2) d (at + 1) (omega (arith, f)) ∙ rw m)
+each_zero : (d : List ℕ) → All (λ x. x ≡ 0) d → zeros d ≡ true
+unfolding zeros
+each_zero [] a = refl
+each_zero (x ∷ xs) a = rw (eq-eqb x 0 (a 0 0 (omega arith))) (each_zero xs (λ k d l. a (suc k) d (omega arith)))
 
-  inner_second : 3 ≤ n → zeros (take (n - 2) (drop (at + 2) d)) ≡ (eqb (get_or d (at + 2) 0) 0 && zeros (take (n - 3) (drop (at + 3) d)))
-  inner_second h =
-      let k : n - 2 ≡ suc (n - 3) = omega arith in
-      let m : at + 2 + 1 ≡ at + 3 = omega arith in
-      rw k (zeros_take (n - 3) d (at + 2) (omega (arith, f)) ∙ rw m)
-
-  module _ (h : n ≡ 1 → ⊥) where
-    pub inner_no : (get_or d (at + 1) 0 ≡ 0 → ⊥) → false ≡ zeros (take (at + n - (at + 1)) (drop (at + 1) d))
-    inner_no e = sym (inner_first (omega (arith, f)) ∙ rw (ne_eqb (get_or d (at + 1) 0) 0 e))
-
-    module _ (e : get_or d (at + 1) 0 ≡ 0) where
-      passed : zeros (take (at + n - (at + 1)) (drop (at + 1) d)) ≡ zeros (take (n - 2) (drop (at + 2) d))
-      passed = inner_first (omega (arith, f)) ∙ rw (eq-eqb (get_or d (at + 1) 0) 0 e)
-
-      pub inner_two : n ≡ 2 → true ≡ zeros (take (at + n - (at + 1)) (drop (at + 1) d))
-      unfolding zeros
-      inner_two q = let k : n - 2 ≡ 0 = omega arith in sym (passed ∙ rw k)
-
-      module _ (q : n ≡ 2 → ⊥) where
-        pub inner_no_2 : (get_or d (at + 2) 0 ≡ 0 → ⊥) → false ≡ zeros (take (at + n - (at + 1)) (drop (at + 1) d))
-        inner_no_2 g = sym (passed ∙ inner_second (omega (arith, f)) ∙ rw (ne_eqb (get_or d (at + 2) 0) 0 g))
-
-        module _ (g : get_or d (at + 2) 0 ≡ 0) where
-          passed_2 : zeros (take (at + n - (at + 1)) (drop (at + 1) d)) ≡ zeros (take (n - 3) (drop (at + 3) d))
-          passed_2 = passed ∙ inner_second (omega (arith, f)) ∙ rw (eq-eqb (get_or d (at + 2) 0) 0 g)
-
-          pub inner_three : n ≡ 3 → true ≡ zeros (take (at + n - (at + 1)) (drop (at + 1) d))
-          unfolding zeros
-          inner_three r = let k : n - 3 ≡ 0 = omega arith in sym (passed_2 ∙ rw k)
-
-          pub inner_last : (n ≡ 3 → ⊥) → eqb (get_or d (at + 3) 0) 0 ≡ zeros (take (at + n - (at + 1)) (drop (at + 1) d))
-          unfolding zeros
-          inner_last r =
-              let k : n - 3 ≡ suc 0 = omega (arith, f) in
-              sym (passed_2 ∙ rw k (zeros_take 0 d (at + 3) (omega (arith, f))) ∙ and-true _)
+told_zeros : (d : List ℕ) (r : Bool) → (IsTrue r ↔ All (λ x. x ≡ 0) d) → r ≡ zeros d
+told_zeros d true h = sym (each_zero d (h.0 refl))
+told_zeros d false h = sym (untrue (zeros d) (λ e. false≢true (h.1 (zeros_each d e))))
 
 pub marks_step : (d : List ℕ) (i : ℕ) → i < length d → are_marks (drop i d) ≡ (leb (get_or d i 0) 2 && are_marks (drop (i + 1) d))
 unfolding are_marks
@@ -151,13 +122,10 @@ module _ (s : List ℕ) (at : ℕ) where
   unfolding is_plain
   not_plain h e = rw (ne_eqb (valid_prefix (drop at s)) (length (drop at s)) (omega (arith, length-drop at s)))
 
-  plain_bad : (d : Decoded) → at < length s → d ≡ decode_at s at → d ≡ Bad → is_plain (drop at s) ≡ false
+  plain_stop : (d : Decoded) → at < length s → d ≡ decode_at s at → (d ≡ Bad) ⊎ (d ≡ End) → is_plain (drop at s) ≡ false
   unfolding wholes
-  plain_bad d h p q = not_plain h (rw (chars_bad s at (sym p ∙ q)))
-
-  plain_end : (d : Decoded) → at < length s → d ≡ decode_at s at → d ≡ End → is_plain (drop at s) ≡ false
-  unfolding wholes
-  plain_end d h p q = not_plain h (rw (chars_end s at (sym p ∙ q)))
+  plain_stop d h p (inl q) = not_plain h (rw (chars_bad s at (sym p ∙ q)))
+  plain_stop d h p (inr q) = not_plain h (rw (chars_end s at (sym p ∙ q)))
 
   plain_none : length s ≤ at → is_plain (drop at s) ≡ true
   unfolding is_plain walk wholes values no_nul
@@ -174,11 +142,8 @@ module _ (s : List ℕ) (at : ℕ) (h : Plainly s at) where
   pub plainly_nul : at < length s → get_or s at 0 ≡ 0 → false ≡ is_plain s
   plainly_nul l o = sym (h.is ∙ plain_nul s at l o)
 
-  pub plainly_bad : (d : Decoded) → at < length s → d ≡ decode_at s at → d ≡ Bad → false ≡ is_plain s
-  plainly_bad d l p q = sym (h.is ∙ plain_bad s at d l p q)
-
-  pub plainly_end : (d : Decoded) → at < length s → d ≡ decode_at s at → d ≡ End → false ≡ is_plain s
-  plainly_end d l p q = sym (h.is ∙ plain_end s at d l p q)
+  pub plainly_stop : (d : Decoded) → at < length s → d ≡ decode_at s at → (d ≡ Bad) ⊎ (d ≡ End) → false ≡ is_plain s
+  plainly_stop d l p q = sym (h.is ∙ plain_stop s at d l p q)
 
   pub plainly_done : length s ≤ at → true ≡ is_plain s
   plainly_done l = sym (h.is ∙ plain_none s at l)
@@ -204,9 +169,10 @@ module _ (v t i at n : ℕ) (ys ps qs : List ℕ) where
         unfolding is_char
         char_number d = rw (ne_eqb v 0 a, eq-eqb t (get_or ys i 0) b, eq-eqb at (get_or ps i 0) c, ne_eqb i (get_or qs at 0) d)
 
-        pub char_inner : (r : Bool) → i ≡ get_or qs at 0 → r ≡ zeros (take (at + n - (at + 1)) (drop (at + 1) qs)) → r ≡ is_char v t i at n ys ps qs
+        pub char_inner : (r : Bool) → i ≡ get_or qs at 0 → (IsTrue r ↔ All (λ x. x ≡ 0) (take (at + n - (at + 1)) (drop (at + 1) qs)))
+            → r ≡ is_char v t i at n ys ps qs
         unfolding is_char
-        char_inner r d e = rw (ne_eqb v 0 a, eq-eqb t (get_or ys i 0) b, eq-eqb at (get_or ps i 0) c, eq-eqb i (get_or qs at 0) d) e
+        char_inner r d e = rw (ne_eqb v 0 a, eq-eqb t (get_or ys i 0) b, eq-eqb at (get_or ps i 0) c, eq-eqb i (get_or qs at 0) d) (told_zeros _ r e)
 
 -- ---- the text with its types and positions
 same_zeros : (k : ℕ) (xs ys : List ℕ) → k ≤ length ys → same (replicate k 0 ++ xs) ys ≡ (zeros (take k ys) && same xs (drop k ys))
@@ -293,13 +259,9 @@ module _ (s ys ps qs : List ℕ) (at i : ℕ) (f : Places s ys ps qs) (h : Readi
       pub read_go : not ok ≡ false → Reading s ys ps qs (at + n) (i + 1)
       read_go u = record { is = tested ∙ rw (not-false ok u); inside = (reach s at v n d p q).within; counted = omega arith }
 
-  pub read_bad : (d : Decoded) → at < length s → d ≡ decode_at s at → d ≡ Bad → false ≡ is_text s ys ps qs
+  pub read_stop : (d : Decoded) → at < length s → d ≡ decode_at s at → (d ≡ Bad) ⊎ (d ≡ End) → false ≡ is_text s ys ps qs
   unfolding text_from
-  read_bad d l p q = sym (h.is ∙ rw (plain_bad s at d l p q))
-
-  pub read_end : (d : Decoded) → at < length s → d ≡ decode_at s at → d ≡ End → false ≡ is_text s ys ps qs
-  unfolding text_from
-  read_end d l p q = sym (h.is ∙ rw (plain_end s at d l p q))
+  read_stop d l p q = sym (h.is ∙ rw (plain_stop s at d l p q))
 
   last : (t : Bool) → eqb i (length ys) ≡ t → length s ≤ at → (t && same (at ∷ []) (drop i ps) && same (i ∷ []) (drop at qs)) ≡ (t && eqb at (get_or ps i 0) && eqb i (get_or qs at 0))
   last true e l =

@@ -1,37 +1,22 @@
 // The passes of a sheet's check, each over slices of the buffers that are the whole of what a record counts.
 #![tactic(auto)]
 
-ghost use Rattle.std.specs.Prelude.{◌+◌, ◌-◌, ◌≤◌, ◌<◌, ◌≡◌, length, take, drop};
-ghost use Rattle.sheet_check.specs.Passes.{zeros, is_plain, is_char, CharFits, is_text, Places, are_marks, is_cell, cells_to, are_cells, are_absent, Row};
+ghost use Rattle.std.specs.Prelude.{◌+◌, ◌-◌, ◌≤◌, ◌<◌, ◌≡◌, ◌↔◌, IsTrue, All, length, take, drop};
+ghost use Rattle.sheet_check.specs.Passes.{is_plain, is_char, CharFits, is_text, Places, are_marks, is_cell, cells_to, are_cells, are_absent, Row};
 
 use types::blocks::Tables;
-use types::unchecked::get_type;
 use utf8::Decoded;
 
 // Nothing but 0 at the inner bytes of a character.
 fn inner_zero(d: &[u16], at: usize, len: usize) -> bool
-    requires { (1 ≤ len) × (len ≤ 4) × (at + len ≤ length d.now) }
-    ensures { result ≡ zeros (take (at + len - (at + 1)) (drop (at + 1) d.now)) }
+    requires { (1 ≤ len) × (at + len ≤ length d.now) }
+    ensures { IsTrue result ↔ All (λ x. x ≡ 0) (take (at + len - (at + 1)) (drop (at + 1) d.now)) }
 {
-    if len == 1 {
-        return true;
-    }
-    if d[at + 1] != 0 {
-        return false;
-    }
-    if len == 2 {
-        return true;
-    }
-    if d[at + 2] != 0 {
-        return false;
-    }
-    if len == 3 {
-        return true;
-    }
-    d[at + 3] == 0
+    d[at + 1..at + len].iter().all(|number| *number == 0)
 }
 
-// A character with its type, its start, its number, and 0 at its inner bytes.
+// A character with its type, its start, its number, and 0 at its inner bytes; each test returns, so that the proof goes test by test. What it is given
+// has no name of its own: a struct of it would be made for each character and taken apart here.
 fn is_char(
     value: u32,
     kind: u8,
@@ -51,10 +36,10 @@ fn is_char(
     if kind != types[i] {
         return false;
     }
-    if at != char_pos[i] as usize {
+    if at != usize::from(char_pos[i]) {
         return false;
     }
-    if i != byte_pos[at] as usize {
+    if i != usize::from(byte_pos[at]) {
         return false;
     }
     inner_zero(byte_pos, at, len)
@@ -68,28 +53,24 @@ fn is_placed(text: &[u8], types: &[u8], char_pos: &[u16], byte_pos: &[u16]) -> b
     let tables = Tables::new();
     let mut at = 0;
     let mut i = 0;
+    // A character has one to four bytes, so no `for` goes over their places.
     while at < text.len() {
         match utf8::decode(text, at) {
             Decoded::Char { value, len } => {
                 if i >= types.len() {
                     return false;
                 }
-                let kind = get_type(&tables.index, &tables.blocks, value);
+                let kind = tables.get_type(value);
                 if !is_char(value, kind, i, at, len, types, char_pos, byte_pos) {
                     return false;
                 }
                 at += len;
                 i += 1;
             }
-            Decoded::Bad => {
-                return false;
-            }
-            Decoded::End => {
-                return false;
-            }
+            Decoded::Bad | Decoded::End => return false,
         }
     }
-    (i == types.len()) & (at == char_pos[i] as usize) & (i == byte_pos[at] as usize)
+    (i == types.len()) & (at == usize::from(char_pos[i])) & (i == usize::from(byte_pos[at]))
 }
 
 // The text, its types and its positions.
@@ -105,15 +86,13 @@ pub fn is_text(text: &[u8], types: &[u8], char_pos: &[u16], byte_pos: &[u16]) ->
     is_placed(text, types, char_pos, byte_pos)
 }
 
-// The boundaries.
+// The boundaries; all are looked at, since an early end is slower.
 pub fn are_marks(marks: &[u8]) -> bool
     ensures { result ≡ are_marks marks.now }
 {
     let mut ok = true;
-    let mut i = 0;
-    while i < marks.len() {
-        ok = ok & (marks[i] <= 2);
-        i += 1;
+    for mark in marks {
+        ok &= *mark <= 2;
     }
     ok
 }
@@ -123,37 +102,31 @@ fn is_plain(s: &[u8]) -> bool
     ensures { result ≡ is_plain s.now }
 {
     let mut at = 0;
+    // A character has one to four bytes, so no `for` goes over their places.
     while at < s.len() {
         if s[at] == 0 {
             return false;
         }
         match utf8::decode(s, at) {
-            Decoded::Char { value: _, len } => {
-                at += len;
-            }
-            Decoded::Bad => {
-                return false;
-            }
-            Decoded::End => {
-                return false;
-            }
+            Decoded::Char { value: _, len } => at += len,
+            Decoded::Bad | Decoded::End => return false,
         }
     }
     true
 }
 
 // A cell behind `from` tag bytes, by the start and the length that are told of it.
-fn is_cell(bytes: &[u8], from: usize, start: usize, len: usize) -> bool
-    requires { (from ≤ length bytes.now) × (len < 65536) }
+fn is_cell(bytes: &[u8], from: usize, start: u16, len: u16) -> bool
+    requires { from ≤ length bytes.now }
     ensures { result ≡ is_cell bytes.now from start len }
 {
-    if start != from {
+    if usize::from(start) != from {
         return false;
     }
     if len == 0 {
         return true;
     }
-    let to = from + len;
+    let to = from + usize::from(len);
     if to > bytes.len() {
         return false;
     }
@@ -166,28 +139,22 @@ fn each_cell(bytes: &[u8], start: usize, end: usize, starts: &[u16], lengths: &[
     ensures { result ≡ cells_to bytes.now end start starts.now lengths.now }
 {
     let mut from = start;
-    let mut i = 0;
-    while i < lengths.len() {
-        let len = lengths[i] as usize;
-        if !is_cell(bytes, from, starts[i] as usize, len) {
+    for (told, len) in starts.iter().zip(lengths) {
+        if !is_cell(bytes, from, *told, *len) {
             return false;
         }
-        from += len;
-        i += 1;
+        from += usize::from(*len);
     }
     from == end
 }
 
-// Absent cells, all at once.
+// Absent cells; all are looked at, since an early end is slower.
 fn are_absent(start: u16, starts: &[u16], lengths: &[u16]) -> bool
-    requires { length starts.now ≡ length lengths.now }
     ensures { result ≡ are_absent start starts.now lengths.now }
 {
     let mut ok = true;
-    let mut i = 0;
-    while i < lengths.len() {
-        ok = ok & (starts[i] == start) & (lengths[i] == 0);
-        i += 1;
+    for (told, len) in starts.iter().zip(lengths) {
+        ok &= (*told == start) & (*len == 0);
     }
     ok
 }
@@ -200,10 +167,10 @@ fn is_row(bytes: &[u8], start: u16, end: u16, starts: &[u16], lengths: &[u16]) -
     if start == end {
         return are_absent(start, starts, lengths);
     }
-    each_cell(bytes, start as usize, end as usize, starts, lengths)
+    each_cell(bytes, usize::from(start), usize::from(end), starts, lengths)
 }
 
-// The cells in rows of so many; the last may have fewer.
+// The cells in rows of so many; the last may have fewer. The slices are cut by hand, since a row ends where the next one starts.
 fn are_rows(columns: usize, bytes: &[u8], starts: &[u16], lengths: &[u16]) -> bool
     requires { (1 ≤ columns) × (length starts.now ≡ length lengths.now) }
     ensures { result ≡ are_cells bytes.now 0 starts.now lengths.now }
@@ -222,7 +189,7 @@ fn are_rows(columns: usize, bytes: &[u8], starts: &[u16], lengths: &[u16]) -> bo
     }
     each_cell(
         bytes,
-        from as usize,
+        usize::from(from),
         bytes.len(),
         &starts[i..],
         &lengths[i..],

@@ -1,52 +1,29 @@
 // The bytes that a field spells in hex.
-ghost use Rattle.std.specs.Prelude.{◌<◌, length};
+use crate::fields::number;
 
-use crate::fields::{find, number, within};
-
-// The value of a hex digit, and 16 of what is none.
-fn digit(b: u8) -> u8 {
-    match b {
-        b'0'..=b'9' => b - b'0',
-        b'A'..=b'F' => b - b'A' + 10,
-        b'a'..=b'f' => b - b'a' + 10,
-        _ => 16,
-    }
-}
-
-// The byte of two digits, and 256 of what are not two.
-fn pair(high: u8, low: u8) -> u16 {
-    if high < 16 {
-        if low < 16 {
-            return high as u16 * 16 + low as u16;
-        }
-    }
-    256
-}
-
-// The byte that is spelt at a place, and 256 if none is.
-fn spelt(s: &[u8], i: usize) -> u16
-    requires { i < length s.now }
-{
-    if i + 1 < s.len() {
-        return pair(digit(s[i]), digit(s[i + 1]));
-    }
-    256
+// The byte that two hex digits spell at a place, if they do.
+fn spelt(s: &[u8], i: usize) -> Option<u8> {
+    let high = char::from(*s.get(i)?).to_digit(16)?;
+    let low = char::from(*s.get(i + 1)?).to_digit(16)?;
+    u8::try_from(high * 16 + low).ok()
 }
 
 // Puts the bytes that a field spells behind the first `at` of `out`, as far as they fit, and answers where they end.
 pub fn unhex(s: &[u8], out: &mut [u8], at: usize) -> usize {
     let mut i = 0;
     let mut n = at;
+    // A byte takes two digits, and what is no digit one place.
     while i < s.len() {
-        let v = spelt(s, i);
-        if v > 255 {
-            i += 1;
-        } else if n < out.len() {
-            out[n] = v as u8;
-            n += 1;
-            i += 2;
-        } else {
-            return n;
+        match spelt(s, i) {
+            None => i += 1,
+            Some(b) => {
+                if n >= out.len() {
+                    return n;
+                }
+                out[n] = b;
+                n += 1;
+                i += 2;
+            }
         }
     }
     n
@@ -55,36 +32,25 @@ pub fn unhex(s: &[u8], out: &mut [u8], at: usize) -> usize {
 // Puts the bytes that a field spells so many times.
 fn times(s: &[u8], count: u64, out: &mut [u8], at: usize) -> usize {
     let mut n = at;
-    let mut left = count;
-    while left > 0 {
+    for _ in 0..count {
         n = unhex(s, out, n);
-        left -= 1;
     }
     n
 }
 
 // Puts the bytes of a run: hex digits, or hex digits, `*` and how often they stand.
 fn run(s: &[u8], out: &mut [u8], at: usize) -> usize {
-    let star = find(s, 0, b'*');
-    if star < s.len() {
-        return times(
-            within(s, 0, star),
-            number(within(s, star + 1, s.len())),
-            out,
-            at,
-        );
+    match s.iter().position(|b| *b == b'*') {
+        Some(star) => times(&s[..star], number(&s[star + 1..]), out, at),
+        None => unhex(s, out, at),
     }
-    unhex(s, out, at)
 }
 
 // Puts the bytes of runs, which are joined by commas, and answers how many there are.
 pub fn repeated(s: &[u8], out: &mut [u8]) -> usize {
     let mut n = 0;
-    let mut i = 0;
-    while i < s.len() {
-        let end = find(s, i, b',');
-        n = run(within(s, i, end), out, n);
-        i = end + 1;
+    for one in s.split(|b| *b == b',') {
+        n = run(one, out, n);
     }
     n
 }

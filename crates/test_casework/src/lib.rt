@@ -7,9 +7,7 @@ mod hex;
 mod lines;
 mod sink;
 
-pub use fields::{
-    at_most, byte, field, find, first, item, listed, number, place, signed, within, within16,
-};
+pub use fields::{byte, field, first, item, listed, number, place, signed, within};
 pub use hex::{repeated, unhex};
-pub use lines::{Line, next_line, read_full};
+pub use lines::{answer_lines, next_line, read_full};
 pub use sink::Sink;

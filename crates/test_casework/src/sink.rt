@@ -2,7 +2,6 @@
 use crate::fields::within;
 use itoa::Buffer;
 use std::io::{self, Stdout, Write};
-use std::num::{wrapping_add_u32, wrapping_add_usize};
 
 // How many bytes are held before they are written.
 const ROOM: usize = 16;
@@ -14,35 +13,17 @@ pub struct Sink {
     pub count: usize,
     pub sum: u32,
     output: Option<Stdout>,
-    failure: Option<io::Error>,
+    outcome: io::Result<()>,
     held: [u8; ROOM],
     n: usize,
 }
 
 // The digit of a number below 16.
 fn glyph(v: u8) -> u8 {
-    if v < 10 {
-        return v + b'0';
-    }
-    if v < 16 {
-        return v - 10 + b'a';
-    }
-    b'?'
-}
-
-// A number with more bits.
-fn wide(n: u16) -> u64 {
-    n as u64
-}
-
-// Writes some bytes where there is an output and no write has failed, and answers the first failure.
-fn written(output: Option<Stdout>, failure: Option<io::Error>, bytes: &[u8]) -> Option<io::Error> {
-    if failure.is_some() {
-        return failure;
-    }
-    match output {
-        Some(mut to) => to.write_all(bytes).err(),
-        None => None,
+    match v {
+        0..=9 => v + b'0',
+        10..=15 => v - 10 + b'a',
+        _ => b'?',
     }
 }
 
@@ -53,7 +34,7 @@ impl Sink {
             count: 0,
             sum: 5381,
             output,
-            failure: None,
+            outcome: Ok(()),
             held: [0; ROOM],
             n: 0,
         }
@@ -71,17 +52,16 @@ impl Sink {
 
     // With one more byte counted.
     fn counted(mut self, b: u8) -> Self {
-        let times = wrapping_add_u32(self.sum << 5, self.sum);
-        self.count = wrapping_add_usize(self.count, 1);
-        self.sum = wrapping_add_u32(times, b as u32);
+        self.count = self.count.wrapping_add(1);
+        self.sum = self.sum.wrapping_mul(33).wrapping_add(u32::from(b));
         self
     }
 
     // With one more byte held, where there is room.
     fn with(mut self, b: u8) -> Self {
         let at = self.n;
-        if at < ROOM {
-            self.held[at] = b;
+        if let Some(place) = self.held.get_mut(at) {
+            *place = b;
             self.n = at + 1;
         }
         self
@@ -89,17 +69,18 @@ impl Sink {
 
     // Writes what is held.
     pub fn flush(mut self) -> Self {
-        self.failure = written(self.output, self.failure, within(&self.held, 0, self.n));
+        if let Some(mut to) = self.output
+            && self.outcome.is_ok()
+        {
+            self.outcome = to.write_all(within(&self.held, 0, self.n));
+        }
         self.n = 0;
         self
     }
 
     // Writes what is held, and answers whether each write has gone well.
     pub fn finish(self) -> io::Result<()> {
-        match self.flush().failure {
-            Some(e) => Err(e),
-            None => Ok(()),
-        }
+        self.flush().outcome
     }
 
     // Puts a byte.
@@ -129,39 +110,22 @@ impl Sink {
         self
     }
 
-    // Puts a byte: as it is, as a digit, or in hex.
-    fn shown(self, how: u8, b: u8) -> Self {
-        match how {
-            b't' => self.put(b),
-            b'd' => self.put(glyph(b)),
-            _ => self.put(glyph(b / 16)).put(glyph(b % 16)),
-        }
-    }
-
-    // Puts bytes, each in the same way.
-    fn each(self, how: u8, s: &[u8]) -> Self {
-        let mut sink = self;
-        let mut i = 0;
-        while i < s.len() {
-            sink = sink.shown(how, s[i]);
-            i += 1;
-        }
-        sink
-    }
-
     // Puts bytes as they are.
     pub fn text(self, s: &[u8]) -> Self {
-        self.each(b't', s)
+        s.iter().fold(self, |sink, b| sink.put(*b))
     }
 
     // Puts bytes in hex.
     pub fn hex(self, s: &[u8]) -> Self {
-        self.dot(s.len()).each(b'h', s)
+        s.iter().fold(self.dot(s.len()), |sink, b| {
+            sink.put(glyph(*b / 16)).put(glyph(*b % 16))
+        })
     }
 
     // Puts a digit for each byte.
     pub fn digits(self, s: &[u8]) -> Self {
-        self.dot(s.len()).each(b'd', s)
+        s.iter()
+            .fold(self.dot(s.len()), |sink, b| sink.put(glyph(*b)))
     }
 
     // Puts a number.
@@ -173,11 +137,8 @@ impl Sink {
     // Puts numbers, joined by commas.
     pub fn numbers(self, s: &[u16]) -> Self {
         let mut sink = self.dot(s.len());
-        let mut i = 0;
-        while i < s.len() {
-            sink = sink.joint(i, b',');
-            sink = sink.number(wide(s[i]));
-            i += 1;
+        for (i, n) in s.iter().enumerate() {
+            sink = sink.joint(i, b',').number(u64::from(*n));
         }
         sink
     }

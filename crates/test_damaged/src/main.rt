@@ -9,239 +9,147 @@
 mod damage;
 mod show;
 
-use sheet::Record;
-use std::io::{self, Stdout};
-use test_calls::{change, look};
-use test_casework::{at_most, byte, field, find, first, place, read_full, within, within16};
+use sheet::{Buffers, Record};
+use std::io;
+use test_calls::{change, look, sheet_of};
+use test_casework::{Sink, answer_lines, byte, field, first, place, read_full};
 
 // The cells of 17 characters in 4,096 columns.
 const CELLS: usize = 69632;
 
-// Makes a call, and shows what it answers; of a change what it leaves too. There are at most four scores.
-fn call(
-    out: Stdout,
-    line: &[u8],
-    r: Record,
-    text: &[u8],
-    types: &[u8],
-    marks: &mut [u8],
-    chars: &[u16],
-    bytes: &[u16],
-    cells: &mut [u16],
-    lens: &mut [u16],
-    tags: &[u8],
-) -> io::Result<()> {
-    let which = first(field(line, 2));
-    let a = place(line, 3);
-    if (which == b'm') | (which == b'r') | (which == b'p') {
-        let scores = within(b"-1,1,0,0", 0, at_most(a, 4) * 2);
-        let answer = change(
-            which,
-            r,
-            text,
-            types,
-            marks,
-            chars,
-            bytes,
-            cells,
-            lens,
-            tags,
-            a,
-            byte(line, 4),
-            scores,
-        );
-        show::answer(out, answer)?;
-        return show::left(out, marks, cells, lens);
+// Makes a call, and puts what it answers; of a change what it leaves too. There are at most four scores.
+fn call(line: &[u8], record: Record, buffers: Buffers<'_>, sink: Sink) -> Sink {
+    let letter = first(field(line, 2));
+    let number = place(line, 3);
+    match letter {
+        b'm' | b'r' | b'p' => {
+            let scores = &[-1, 1, 0, 0][..number.min(4)];
+            let (changed, left) = change(letter, record, buffers, number, byte(line, 4), scores);
+            show::left(&left, show::answer(changed, sink))
+        }
+        b'N' => sink,
+        _ => {
+            let found = look(letter, &sheet_of(record, &buffers), number, place(line, 4));
+            show::found(found, sink)
+        }
     }
-    let found = look(
-        which,
-        r,
-        text,
-        types,
-        marks,
-        chars,
-        bytes,
-        cells,
-        lens,
-        tags,
-        a,
-        place(line, 4),
-    );
-    show::found(out, found)
 }
 
-// Makes the call of a case with as much of each buffer as is lent.
-fn lend(
-    out: Stdout,
-    line: &[u8],
-    r: Record,
-    text: &[u8],
-    types: &[u8],
-    marks: &mut [u8],
-    chars: &[u16],
-    bytes: &[u16],
-    cells: &mut [u16],
-    lens: &mut [u16],
-    tags: &[u8],
-) -> io::Result<()> {
-    let n0 = damage::lent(line, 0, text.len());
-    let n1 = damage::lent(line, 1, types.len());
-    let n2 = damage::lent(line, 2, marks.len());
-    let n3 = damage::lent(line, 3, chars.len());
-    let n4 = damage::lent(line, 4, bytes.len());
-    let n5 = damage::lent(line, 5, cells.len());
-    let n6 = damage::lent(line, 6, lens.len());
-    let n7 = damage::lent(line, 7, tags.len());
-    call(
-        out,
-        line,
-        damage::record(line, r),
-        within(text, 0, n0),
-        within(types, 0, n1),
-        &mut marks[..n2],
-        within16(chars, 0, n3),
-        within16(bytes, 0, n4),
-        &mut cells[..n5],
-        &mut lens[..n6],
-        within(tags, 0, n7),
-    )
-}
-
-// Makes the call of a case on a sheet with what the case changes of it.
-fn damaged(
-    out: Stdout,
-    line: &[u8],
-    r: Record,
-    text: &mut [u8],
-    types: &mut [u8],
-    marks: &mut [u8],
-    chars: &mut [u16],
-    bytes: &mut [u16],
-    cells: &mut [u16],
-    lens: &mut [u16],
-    tags: &mut [u8],
-) -> io::Result<()> {
-    damage::set(line, text, types, marks, chars, bytes, cells, lens, tags);
-    lend(
-        out, line, r, text, types, marks, chars, bytes, cells, lens, tags,
-    )
-}
-
-// A record.
-fn record(n: usize, b: usize, columns: usize, cells: usize, g: usize) -> Record {
-    Record {
-        n,
-        b,
-        columns,
-        cells,
-        g,
-    }
+// Makes the call of a case on a sheet with what the case changes of it, and as much of each buffer as is lent.
+fn damaged(line: &[u8], record: Record, mut buffers: Buffers<'_>, sink: Sink) -> Sink {
+    let changes = field(line, 1);
+    damage::set(changes, &mut buffers);
+    let lent = damage::lend(changes, buffers);
+    call(line, damage::record(changes, record), lent, sink)
 }
 
 // Sheet 0.
-fn mixed(out: Stdout, line: &[u8]) -> io::Result<()> {
-    let mut text = *b"a\xe3\x81\x82b";
-    let mut types = [2u8, 3, 2];
-    let mut marks = [0u8, 1];
-    let mut chars = [0u16, 1, 4, 5];
-    let mut bytes = [0u16, 1, 0, 0, 2, 3];
-    let mut cells = [0u16, 1, 1, 1, 3, 3];
-    let mut lens = [1u16, 0, 0, 2, 0, 0];
-    let mut tags = *b"x\xc3\xa9";
-    let r = record(3, 5, 2, 6, 3);
-    damaged(
-        out, line, r, &mut text, &mut types, &mut marks, &mut chars, &mut bytes, &mut cells,
-        &mut lens, &mut tags,
-    )
+fn mixed(line: &[u8], sink: Sink) -> Sink {
+    let record = Record {
+        n: 3,
+        b: 5,
+        columns: 2,
+        cells: 6,
+        g: 3,
+    };
+    let buffers = Buffers {
+        text: &mut [b'a', 0xe3, 0x81, 0x82, b'b'],
+        types: &mut [2, 3, 2],
+        boundaries: &mut [0, 1],
+        char_pos: &mut [0, 1, 4, 5],
+        byte_pos: &mut [0, 1, 0, 0, 2, 3],
+        cell_starts: &mut [0, 1, 1, 1, 3, 3],
+        cell_lengths: &mut [1, 0, 0, 2, 0, 0],
+        tag_bytes: &mut [b'x', 0xc3, 0xa9],
+    };
+    damaged(line, record, buffers, sink)
 }
 
 // Sheet 1.
-fn worked(out: Stdout, line: &[u8]) -> io::Result<()> {
-    let mut text = *b"ab";
-    let mut types = [2u8, 2];
-    let mut marks = [1u8];
-    let mut chars = [0u16, 1, 2];
-    let mut bytes = [0u16, 1, 2];
-    let mut cells = [0u16, 0, 1, 2];
-    let mut lens = [0u16, 1, 1, 0];
-    let mut tags = *b"xy";
-    let r = record(2, 2, 2, 4, 2);
-    damaged(
-        out, line, r, &mut text, &mut types, &mut marks, &mut chars, &mut bytes, &mut cells,
-        &mut lens, &mut tags,
-    )
+fn worked(line: &[u8], sink: Sink) -> Sink {
+    let record = Record {
+        n: 2,
+        b: 2,
+        columns: 2,
+        cells: 4,
+        g: 2,
+    };
+    let buffers = Buffers {
+        text: &mut [b'a', b'b'],
+        types: &mut [2, 2],
+        boundaries: &mut [1],
+        char_pos: &mut [0, 1, 2],
+        byte_pos: &mut [0, 1, 2],
+        cell_starts: &mut [0, 0, 1, 2],
+        cell_lengths: &mut [0, 1, 1, 0],
+        tag_bytes: &mut [b'x', b'y'],
+    };
+    damaged(line, record, buffers, sink)
 }
 
 // Sheet 2.
-fn plain(out: Stdout, line: &[u8]) -> io::Result<()> {
-    let mut text = *b"ab";
-    let mut types = [2u8, 2];
-    let mut marks = [0u8];
-    let mut chars = [0u16, 1, 2];
-    let mut bytes = [0u16, 1, 2];
-    let mut cells = [7u16, 7, 7];
-    let mut lens = [7u16, 7, 7];
-    let mut tags = *b"z";
-    let r = record(2, 2, 0, 0, 0);
-    damaged(
-        out, line, r, &mut text, &mut types, &mut marks, &mut chars, &mut bytes, &mut cells,
-        &mut lens, &mut tags,
-    )
+fn plain(line: &[u8], sink: Sink) -> Sink {
+    let record = Record {
+        n: 2,
+        b: 2,
+        columns: 0,
+        cells: 0,
+        g: 0,
+    };
+    let buffers = Buffers {
+        text: &mut [b'a', b'b'],
+        types: &mut [2, 2],
+        boundaries: &mut [0],
+        char_pos: &mut [0, 1, 2],
+        byte_pos: &mut [0, 1, 2],
+        cell_starts: &mut [7; 3],
+        cell_lengths: &mut [7; 3],
+        tag_bytes: &mut [b'z'],
+    };
+    damaged(line, record, buffers, sink)
 }
 
 // The positions of 17 characters of one byte.
 const PLACES: [u16; 18] = [0, 1, 2, 3, 4, 5, 6, 7, 8, 9, 10, 11, 12, 13, 14, 15, 16, 17];
 
 // Sheet 3.
-fn wide(out: Stdout, line: &[u8]) -> io::Result<()> {
-    let mut text = [b'a'; 17];
-    let mut types = [2u8; 17];
-    let mut marks = [0u8; 16];
+fn wide(line: &[u8], sink: Sink) -> Sink {
+    let record = Record {
+        n: 17,
+        b: 17,
+        columns: 0,
+        cells: 0,
+        g: 0,
+    };
     let mut chars = PLACES;
     let mut bytes = PLACES;
-    let mut cells = [0u16; CELLS];
-    let mut lens = [0u16; CELLS];
-    let mut tags = [0u8; 1];
-    let r = record(17, 17, 0, 0, 0);
-    damaged(
-        out, line, r, &mut text, &mut types, &mut marks, &mut chars, &mut bytes, &mut cells,
-        &mut lens, &mut tags,
-    )
+    let buffers = Buffers {
+        text: &mut [b'a'; 17],
+        types: &mut [2; 17],
+        boundaries: &mut [0; 16],
+        char_pos: &mut chars,
+        byte_pos: &mut bytes,
+        cell_starts: &mut [0; CELLS],
+        cell_lengths: &mut [0; CELLS],
+        tag_bytes: &mut [0],
+    };
+    damaged(line, record, buffers, sink)
 }
 
-// Makes the call of a case.
-fn run(out: Stdout, line: &[u8]) -> io::Result<()> {
+// The answer to a case.
+fn answer(line: &[u8], sink: Sink) -> Sink {
+    let to = sink.put(b' ').yes();
     match place(line, 0) {
-        0 => mixed(out, line),
-        1 => worked(out, line),
-        2 => plain(out, line),
-        _ => wide(out, line),
+        0 => mixed(line, to),
+        1 => worked(line, to),
+        2 => plain(line, to),
+        _ => wide(line, to),
     }
-}
-
-// Writes a line, with its answer if it is a case.
-fn show_line(out: Stdout, line: &[u8]) -> io::Result<()> {
-    out.write_all(line)?;
-    if first(line) != b'#' {
-        print!(out; " = ")?;
-        run(out, line)?;
-    }
-    println!(out)
-}
-
-// Writes each line of a text.
-fn each(out: Stdout, text: &[u8]) -> io::Result<()> {
-    let mut at = 0;
-    while at < text.len() {
-        let end = find(text, at, b'\n');
-        show_line(out, within(text, at, end))?;
-        at = end + 1;
-    }
-    Ok(())
 }
 
 fn main(rt: HostRuntime) -> io::Result<()> {
-    let mut buf = [0u8; 65536];
-    let n = read_full(&mut rt.stdin(), &mut buf)?;
-    each(rt.stdout(), &buf[..n])
+    let mut input = [0u8; 65536];
+    let n = read_full(&mut rt.stdin(), &mut input)?;
+    let mut line = [0u8; 65536];
+    answer_lines(&mut &input[..n], rt.stdout(), &mut line, answer)
 }

@@ -1,66 +1,50 @@
-// Writes the answers.
+// Puts the answers.
 use sentence::Refusal;
-use sheet::{Answer, Number, Slice};
-use std::io::{self, Stdout};
+use sheet::{Buffers, Record, Span};
 use test_calls::Found;
-use test_casework::{Sink, at_most, within, within16};
+use test_casework::Sink;
 
-// Writes a number and a space.
-fn spaced(out: Stdout, n: usize) -> io::Result<()> {
-    print!(out; "{n} ")
+// Puts a refusal: its number and its place.
+fn refusal(f: Refusal, sink: Sink) -> Sink {
+    sink.put(b'!')
+        .number(u64::from(f.reason.number()))
+        .number_field(f.place as u64)
 }
 
-// Writes a refusal: its number and its place.
-fn refusal(out: Stdout, x: Refusal) -> io::Result<()> {
-    print!(out; "!{} {}", x.number, x.place)
-}
-
-// Writes a number that was asked for.
-fn number(out: Stdout, a: Number) -> io::Result<()> {
-    match a {
-        Number::Is(n) => print!(out; "{n}"),
-        Number::Refused(x) => refusal(out, x),
-    }
-}
-
-// Writes where a slice starts and ends.
-fn slice(out: Stdout, a: Slice) -> io::Result<()> {
-    match a {
-        Slice::Bytes { start, end } => print!(out; "{start} {end}"),
-        Slice::Absent => print!(out; "absent"),
-        Slice::Refused(x) => refusal(out, x),
-    }
-}
-
-// Writes what a look-up found.
-pub fn found(out: Stdout, f: Found) -> io::Result<()> {
+// Puts what a look-up found: a number, or where a slice starts and ends.
+pub fn found(f: Result<Found, Refusal>, sink: Sink) -> Sink {
     match f {
-        Found::Number(a) => number(out, a),
-        Found::Text(a) | Found::Tag(a) => slice(out, a),
-        Found::Step(_) => Ok(()),
-    }
-}
-
-// Writes the numbers of a record.
-pub fn answer(out: Stdout, a: Answer) -> io::Result<()> {
-    match a {
-        Answer::Sentence(r) => {
-            spaced(out, r.n)?;
-            spaced(out, r.b)?;
-            spaced(out, r.columns)?;
-            spaced(out, r.cells)?;
-            print!(out; "{}", r.g)
+        Ok(Found::Number(n)) => sink.number(n as u64),
+        Ok(Found::Text(Some(Span { start, end })) | Found::Tag(Some(Span { start, end }))) => {
+            sink.number(start as u64).number_field(end as u64)
         }
-        Answer::Refused(x) => refusal(out, x),
+        Ok(Found::Text(None) | Found::Tag(None)) => sink.text(b"absent"),
+        Ok(Found::Step(_)) => sink,
+        Err(f) => refusal(f, sink),
     }
 }
 
-// Writes what a change left of the buffers that it may alter: as much as is lent, eight elements at the most.
-pub fn left(out: Stdout, marks: &[u8], cells: &[u16], lens: &[u16]) -> io::Result<()> {
-    let n2 = at_most(8, marks.len());
-    let n5 = at_most(8, cells.len());
-    let n6 = at_most(8, lens.len());
-    let begun = Sink::new(out).digits_field(within(marks, 0, n2));
-    let half = begun.numbers_field(within16(cells, 0, n5));
-    half.numbers_field(within16(lens, 0, n6)).finish()
+// Puts the numbers of a record.
+pub fn answer(a: Result<Record, Refusal>, sink: Sink) -> Sink {
+    match a {
+        Ok(r) => sink
+            .number(r.n as u64)
+            .number_field(r.b as u64)
+            .number_field(r.columns as u64)
+            .number_field(r.cells as u64)
+            .number_field(r.g as u64),
+        Err(f) => refusal(f, sink),
+    }
+}
+
+// The first eight elements of a buffer, or all.
+fn head<T>(buffer: &[T]) -> &[T] {
+    &buffer[..buffer.len().min(8)]
+}
+
+// Puts what a change left of the buffers that it may alter: as much as is lent, eight elements at the most.
+pub fn left(buffers: &Buffers<'_>, sink: Sink) -> Sink {
+    sink.digits_field(head(buffers.boundaries))
+        .numbers_field(head(buffers.cell_starts))
+        .numbers_field(head(buffers.cell_lengths))
 }

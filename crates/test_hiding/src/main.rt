@@ -13,36 +13,10 @@
 mod copies;
 mod question;
 
-use std::io::{self, Read, Stdout};
-use test_casework::{Sink, first, next_line, within};
-
-// A line, with its answer if it is a question.
-fn answered(out: Stdout, line: &[u8]) -> Sink {
-    let asked = Sink::new(out).text(line);
-    if first(line) == b'#' {
-        return asked;
-    }
-    question::ask(line, asked)
-}
-
-// Writes a line, with its answer if it is a question.
-fn show_line(out: Stdout, line: &[u8]) -> io::Result<()> {
-    answered(out, line).put(b'\n').finish()
-}
-
-// Answers each line of the input; the turns are counted, up to a number that no run uses up.
-fn run(input: &mut impl Read, out: Stdout, line: &mut [u8]) -> io::Result<()> {
-    for _ in 0..u64::MAX {
-        let l = next_line(input, line)?;
-        if !l.is {
-            break;
-        }
-        show_line(out, within(line, 0, l.n))?;
-    }
-    Ok(())
-}
+use std::io;
+use test_casework::answer_lines;
 
 fn main(rt: HostRuntime) -> io::Result<()> {
     let mut line = [0u8; 8448];
-    run(&mut rt.stdin(), rt.stdout(), &mut line)
+    answer_lines(&mut rt.stdin(), rt.stdout(), &mut line, question::ask)
 }

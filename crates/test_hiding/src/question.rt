@@ -1,10 +1,13 @@
 // A question: its line read into a sheet, and the key or the copies that it asks for.
+ghost use Rattle.std.specs.Prelude.{◌<◌, ◌^◌};
+
 use crate::copies;
-use sheet::{Answer, Record};
+use sheet::{Buffers, Sheet};
 use std::num::wrapping_add_usize;
 use test_asking::ask_into;
-use test_calls::{Damage, lent, record};
-use test_casework::{Sink, at_most, field, first, place, repeated, within, within16};
+use test_calls::{Damage, sheet_of};
+use test_casework::{Sink, field, first, place, repeated};
+use write::{note_key, write_withheld_text};
 
 // The bytes of a short line.
 const SHORT: usize = 256;
@@ -36,164 +39,93 @@ fn damage(line: &[u8]) -> Damage {
     }
 }
 
-// What the starts and the ends of every range are below, and 0 where one is asked for.
-fn below(line: &[u8], r: Record) -> usize {
-    if first(line) == b'A' {
-        return at_most(r.n, 4096) + 2;
-    }
-    0
-}
-
-// What a question asks for, out of a sheet; the turns are counted down from a number that no question uses up.
-fn told(
-    line: &[u8],
-    r: Record,
-    text: &[u8],
-    types: &[u8],
-    marks: &[u8],
-    chars: &[u16],
-    bytes: &[u16],
-    cells: &[u16],
-    lens: &[u16],
-    tags: &[u8],
+// The copy of a range.
+fn copy(
+    sheet: &Sheet<'_>,
+    start: usize,
+    end: usize,
+    room: usize,
     out: &mut [u8],
     sink: Sink,
 ) -> Sink {
-    let key = first(line) == b'K';
-    let most = below(line, r);
-    let mut start = place(line, 7);
-    let mut end = place(line, 8);
-    let mut so_far = sink;
-    let mut turns = u64::MAX;
-    while turns > 0 {
-        so_far = copies::one(
-            key,
-            r,
-            text,
-            types,
-            marks,
-            chars,
-            bytes,
-            cells,
-            lens,
-            tags,
-            start,
-            end,
-            place(line, 3),
-            out,
-            so_far,
-        );
-        end = wrapping_add_usize(end, 1);
-        if end >= most {
-            end = 0;
-            start = wrapping_add_usize(start, 1);
+    copies::one(
+        |lent| write_withheld_text(sheet, start, end, lent),
+        room,
+        out,
+        sink,
+    )
+}
+
+// The copies of every range from the one given on, up to one past the characters.
+fn all_copies(
+    sheet: &Sheet<'_>,
+    from: usize,
+    to: usize,
+    room: usize,
+    out: &mut [u8],
+    sink: Sink,
+) -> Sink {
+    let most = sheet.record.n.min(4096) + 2;
+    let mut so_far = copy(sheet, from, to, room, out, sink);
+    let next = wrapping_add_usize(to, 1);
+    if from < most {
+        for end in next..most {
+            so_far = copy(sheet, from, end, room, out, so_far);
         }
-        if start >= most {
-            return so_far;
+    } else if next < most {
+        return so_far;
+    }
+    for start in wrapping_add_usize(from, 1)..most {
+        for end in 0..most {
+            so_far = copy(sheet, start, end, room, out, so_far);
         }
-        turns -= 1;
     }
     so_far
 }
 
-// The answer on what was read: a sentence has what is changed of its record, and as much of each buffer as is lent.
-fn served(
-    line: &[u8],
-    a: Answer,
-    text: &[u8],
-    types: &[u8],
-    marks: &[u8],
-    chars: &[u16],
-    bytes: &[u16],
-    cells: &[u16],
-    lens: &[u16],
-    tags: &[u8],
-    out: &mut [u8],
-    sink: Sink,
-) -> Sink {
-    let d = damage(line);
-    match a {
-        Answer::Sentence(r) => told(
-            line,
-            record(d, r),
-            within(text, 0, lent(d, 0, text.len())),
-            within(types, 0, lent(d, 1, types.len())),
-            within(marks, 0, lent(d, 2, marks.len())),
-            within16(chars, 0, lent(d, 3, chars.len())),
-            within16(bytes, 0, lent(d, 4, bytes.len())),
-            within16(cells, 0, lent(d, 5, cells.len())),
-            within16(lens, 0, lent(d, 6, lens.len())),
-            within(tags, 0, lent(d, 7, tags.len())),
-            out,
-            sink,
-        ),
-        Answer::Refused(f) => copies::refused(f, sink),
+// What a question asks for, out of a sheet.
+fn told(line: &[u8], sheet: &Sheet<'_>, out: &mut [u8], sink: Sink) -> Sink {
+    let room = place(line, 3);
+    match first(line) {
+        b'A' => all_copies(sheet, place(line, 7), place(line, 8), room, out, sink),
+        b'K' => copies::one(|lent| note_key(sheet, lent), room, out, sink),
+        _ => copy(sheet, place(line, 7), place(line, 8), room, out, sink),
     }
 }
 
-// The answer to a question by way of the small buffers, which are cleared sooner.
-fn small(line: &[u8], sink: Sink) -> Sink {
-    let mut text = [0u8; SMALL];
-    let mut types = [0u8; SMALL];
-    let mut marks = [0u8; SMALL];
-    let mut chars = [0u16; SMALL];
-    let mut bytes = [0u16; SMALL];
-    let mut cells = [0u16; FEW];
-    let mut lens = [0u16; FEW];
-    let mut tags = [0u8; SMALL];
-    let mut out = [0u8; LITTLE];
-    let a = ask_into(
-        false,
-        first(field(line, 1)),
-        field(line, 2),
-        &mut text,
-        &mut types,
-        &mut marks,
-        &mut chars,
-        &mut bytes,
-        &mut cells,
-        &mut lens,
-        &mut tags,
-    );
-    served(
-        line, a, &text, &types, &marks, &chars, &bytes, &cells, &lens, &tags, &mut out, sink,
-    )
+// The answer to a question by way of buffers with some room, and an output of a length. A sentence has what is changed of its record,
+// and as much of each buffer as is lent.
+fn by_way<const ROOM: usize, const CELLS: usize, const OUT: usize>(line: &[u8], sink: Sink) -> Sink
+    requires { (ROOM < 2 ^ 32) × (CELLS < 2 ^ 32) × (OUT < 2 ^ 32) }
+{
+    let mut buffers = Buffers {
+        text: &mut [0; ROOM],
+        types: &mut [0; ROOM],
+        boundaries: &mut [0; ROOM],
+        char_pos: &mut [0; ROOM],
+        byte_pos: &mut [0; ROOM],
+        cell_starts: &mut [0; CELLS],
+        cell_lengths: &mut [0; CELLS],
+        tag_bytes: &mut [0; ROOM],
+    };
+    let mut out = [0; OUT];
+    let d = damage(line);
+    match ask_into(false, first(field(line, 1)), field(line, 2), &mut buffers) {
+        Ok(r) => told(
+            line,
+            &sheet_of(d.record(r), &d.lend(buffers)),
+            &mut out,
+            sink,
+        ),
+        Err(f) => copies::refused(f, sink),
+    }
 }
 
-// The same by way of the large buffers.
-fn large(line: &[u8], sink: Sink) -> Sink {
-    let mut text = [0u8; LARGE];
-    let mut types = [0u8; LARGE];
-    let mut marks = [0u8; LARGE];
-    let mut chars = [0u16; LARGE];
-    let mut bytes = [0u16; LARGE];
-    let mut cells = [0u16; MANY];
-    let mut lens = [0u16; MANY];
-    let mut tags = [0u8; LARGE];
-    let mut out = [0u8; MOST];
-    let a = ask_into(
-        false,
-        first(field(line, 1)),
-        field(line, 2),
-        &mut text,
-        &mut types,
-        &mut marks,
-        &mut chars,
-        &mut bytes,
-        &mut cells,
-        &mut lens,
-        &mut tags,
-    );
-    served(
-        line, a, &text, &types, &marks, &chars, &bytes, &cells, &lens, &tags, &mut out, sink,
-    )
-}
-
-// The answer to a question.
+// The answer to a question; the small buffers are cleared sooner.
 pub fn ask(line: &[u8], sink: Sink) -> Sink {
     let mut given = [0u8; 5120];
     if (repeated(field(line, 2), &mut given) <= SHORT) & (place(line, 3) <= LITTLE) {
-        return small(line, sink);
+        return by_way::<SMALL, FEW, LITTLE>(line, sink);
     }
-    large(line, sink)
+    by_way::<LARGE, MANY, MOST>(line, sink)
 }

@@ -3,31 +3,15 @@
 #![tactic(auto)]
 
 use std::io;
-use test_casework::{find, read_full, within};
+use test_casework::{read_full, unhex, within};
 use utf8::unchecked::Encoded;
-
-// Writes a byte as two digits.
-fn show_byte(rt: &impl Print, b: u8) -> io::Result<()> {
-    print!(rt; "{b:02x}")
-}
-
-// The number of four bytes, the highest first.
-fn number(a: u8, b: u8, c: u8, d: u8) -> u32 {
-    ((a as u32 * 256 + b as u32) * 256 + c as u32) * 256 + d as u32
-}
-
-// A byte as a place.
-fn wide(b: u8) -> usize {
-    b as usize
-}
 
 // D: a place of one byte, then a text.
 fn decode_case(rt: &impl Print, b: &[u8]) -> io::Result<()> {
-    if b.len() < 1 {
+    let [at, text @ ..] = b else {
         return Ok(());
-    }
-    let at = wide(b[0]);
-    match utf8::decode(&b[1..], at) {
+    };
+    match utf8::decode(text, usize::from(*at)) {
         utf8::Decoded::Char { value, len } => print!(rt; "char {value:x} {len}"),
         utf8::Decoded::Bad => print!(rt; "bad"),
         utf8::Decoded::End => print!(rt; "end"),
@@ -45,23 +29,22 @@ fn encoded(v: u32) -> Encoded {
         return utf8::unchecked::encode(v);
     }
     Encoded {
-        bytes: [0, 0, 0, 0],
+        bytes: [0; 4],
         len: 0,
     }
 }
 
-// E: a number of four bytes; written are the length and the four bytes that it is encoded in.
+// E: a number of four bytes, the highest first; written are the length and the four bytes that it is encoded in.
 fn encode_case(rt: &impl Print, b: &[u8]) -> io::Result<()> {
-    if b.len() < 4 {
+    let [b0, b1, b2, b3, ..] = b else {
         return Ok(());
+    };
+    let Encoded { bytes, len } = encoded(u32::from_be_bytes([*b0, *b1, *b2, *b3]));
+    print!(rt; "{len} ")?;
+    for b in bytes {
+        print!(rt; "{b:02x}")?;
     }
-    let e = encoded(number(b[0], b[1], b[2], b[3]));
-    print!(rt; "{} ", e.len)?;
-    let r = e.bytes;
-    show_byte(rt, r[0])?;
-    show_byte(rt, r[1])?;
-    show_byte(rt, r[2])?;
-    show_byte(rt, r[3])
+    Ok(())
 }
 
 // Writes the answer to a case of a kind, whose bytes are given.
@@ -78,12 +61,12 @@ fn answer(rt: &impl Print, kind: u8, b: &[u8]) -> io::Result<()> {
 // Writes a line, with its answer if it is a case.
 fn show_line(rt: &impl Print, line: &[u8]) -> io::Result<()> {
     rt.write_all(line)?;
-    if line.len() > 0 {
-        let kind = line[0];
-        if kind != b'#' {
+    match line {
+        [] | [b'#', ..] => {}
+        [kind, digits @ ..] => {
             let mut b = [0u8; 64];
-            let n = test_casework::unhex(&line[1..], &mut b, 0);
-            answer(rt, kind, within(&b, 0, n))?;
+            let n = unhex(digits, &mut b, 0);
+            answer(rt, *kind, within(&b, 0, n))?;
         }
     }
     println!(rt)
@@ -91,11 +74,12 @@ fn show_line(rt: &impl Print, line: &[u8]) -> io::Result<()> {
 
 // Writes each line of a text.
 fn run(rt: &impl Print, text: &[u8]) -> io::Result<()> {
-    let mut at = 0;
-    while at < text.len() {
-        let end = find(text, at, b'\n');
-        show_line(rt, within(text, at, end))?;
-        at = end + 1;
+    if text.is_empty() {
+        return Ok(());
+    }
+    let lines = text.strip_suffix(b"\n").unwrap_or(text);
+    for line in lines.split(|b| *b == b'\n') {
+        show_line(rt, line)?;
     }
     Ok(())
 }

@@ -85,9 +85,11 @@ module _ {n : ℕ} {bs : List ℕ} {p : ℕ} {k : Bool} {b e : ℕ} (s : Scannin
       let z : drop (e - 1) (marks_in n bs) ≡ [] = drop_of_length-le (marks_in n bs) {i = e - 1} (omega (arith, marks_long n bs h)) in
       rw z at s.same
 
-  pub scan_last : {r : Step} → n ≤ e → k ≡ true → r ≡ step_of (serves (token b e)) → r ≡ step_of (next_token_of (marks_in n bs) n p)
+  pub scan_last : {r : Step} → n ≤ e → k ≡ true → r ≡ step_of (serves (token b n)) → r ≡ step_of (next_token_of (marks_in n bs) n p)
   unfolding tokens first
-  scan_last l z q = q ∙ ap step_of (sym (rw z at (over l)))
+  scan_last l z q =
+      let x : e ≡ n = omega (arith, s.within) in
+      q ∙ ap step_of (sym (rw (z, x) at (over l)))
 
   pub scan_done : n ≤ e → k ≡ false → Done n ≡ step_of (next_token_of (marks_in n bs) n p)
   unfolding tokens first

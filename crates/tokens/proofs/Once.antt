@@ -3,10 +3,10 @@ use Prim.Native.Nat.{ℕ}
 use mathlib.Core.Path.{◌≡◌}
 use mathlib.Core.List.{List}
 use Rattle.sheet.specs.declared.Record.{Record}
-use Rattle.sheet.specs.declared.Number.{Number}
+use Rattle.sheet.specs.Answers.{Number}
 use Rattle.sheet.specs.Layout.{Buffers}
 use Rattle.tokens.specs.declared.Token.{Token as Span}
-use Rattle.tokens.specs.declared.Next.{Next}
+use Rattle.tokens.specs.Steps.{Next}
 use Rattle.tokens.specs.Steps.{next_of, Listed}
 
 pub next_once : (r : Record) (d : Buffers) (p : ℕ) {a a' : Next} → a ≡ next_of r d p → a' ≡ next_of r d p → a ≡ a'

@@ -1,7 +1,7 @@
 // The cursor over the boundaries of a checked sheet with `n` characters. No other buffer is looked at, so stepping through a line is linear.
 ghost use Rattle.std.specs.Prelude.{◌≡◌, ◌<◌, length};
 ghost use Rattle.sentence.specs.Writing.{token, serves, next_token_of, tokens_from};
-ghost use Rattle.tokens.specs.Steps.{step_of, marks_in, Bounded, span_in};
+ghost use Rattle.tokens.specs.Steps.{step_of, marks_in, Bounded};
 
 use super::{Step, Token};
 
@@ -17,6 +17,7 @@ fn served(start: usize, end: usize) -> Step
 }
 
 // The first token from `p` on that has no unknown boundary; one is taken to begin at `p`. A boundary is 0 none, 1 word, 2 unknown.
+#[tactic(auto, using(crate::proofs::Cursor::scans))]
 pub fn next_token(boundaries: &[u8], n: usize, p: usize) -> Step
     requires { Bounded n boundaries.now }
     ensures { result ≡ step_of (next_token_of (marks_in n boundaries.now) n p) }
@@ -26,24 +27,19 @@ pub fn next_token(boundaries: &[u8], n: usize, p: usize) -> Step
     }
     let mut known = true;
     let mut start = p;
-    let mut end = p + 1;
-    while end < n {
+    for end in p + 1..n {
         let mark = boundaries[end - 1];
         if (mark == 1) & known {
             return served(start, end);
         } else if mark == 1 {
             known = true;
             start = end;
-            end += 1;
-        } else if mark == 0 {
-            end += 1;
-        } else {
+        } else if mark != 0 {
             known = false;
-            end += 1;
         }
     }
     if known {
-        return served(start, end);
+        return served(start, n);
     }
     Step::Done { at: n }
 }
@@ -53,28 +49,11 @@ pub fn count_tokens(boundaries: &[u8], n: usize) -> usize
     requires { Bounded n boundaries.now }
     ensures { result ≡ length (tokens_from (marks_in n boundaries.now) 0) }
 {
-    let mut count: usize = 0;
-    let mut p: usize = 0;
-    loop {
-        match next_token(boundaries, n, p) {
-            Step::Serves(t) => {
-                p = t.end as usize;
-                count += 1;
-            }
-            Step::Done { at: _ } => {
-                return count;
-            }
-        }
+    let mut count = 0;
+    let mut p = 0;
+    while let Step::Serves(t) = next_token(boundaries, n, p) {
+        p = usize::from(t.end);
+        count += 1;
     }
-}
-
-// The token that the step at `p` serves, or an empty one where it is done.
-pub fn token_from(boundaries: &[u8], n: usize, p: u16) -> Token
-    requires { Bounded n boundaries.now }
-    ensures { result ≡ span_in (next_token_of (marks_in n boundaries.now) n p) }
-{
-    match next_token(boundaries, n, p as usize) {
-        Step::Serves(t) => t,
-        Step::Done { at: _ } => Token { start: 0, end: 0 },
-    }
+    count
 }

@@ -10,8 +10,10 @@ use lib.ListN.{length, get_or}
 use lib.Seq.{ext_get_or}
 use borrow.Author.Tests.{le-leb, lt-leb, lt-ltb, le-ltb, ltb-true, ltb-false, eqb-true}
 use Rattle.laws.specs.If.{when◌then◌else◌, if_true, if_false}
+use Rattle.types.specs.declared.CharacterType.{CharacterType}
+use Rattle.types.specs.declared.CharacterType.TheVariants.{Digit, Roman, Hiragana, Katakana, Kanji, Other}
 use Rattle.types.specs.declared.ranges.Row.{Row}
-use Rattle.types.specs.TypeOf.{find, ranges, type_of}
+use Rattle.types.specs.TypeOf.{code_of, find, ranges, type_of}
 use Rattle.types.specs.Blocks.{mixed, place, uniform, block_is, entry, entry_is, every, tested, Right}
 
 -- ---- tests that passed
@@ -45,7 +47,7 @@ module _ (r : Row) (rs : List Row) (c : ℕ) where
   unfolding find
   above h = if_false _ _ _ (rw (lt-leb c r.1 h, and-false))
 
-  within : r.0 ≤ c → c ≤ r.1 → find (r ∷ rs) c ≡ r.2
+  within : r.0 ≤ c → c ≤ r.1 → find (r ∷ rs) c ≡ code_of r.2
   unfolding find
   within g h = if_true _ _ _ (rw (le-leb r.0 c g, le-leb c r.1 h))
 
@@ -57,6 +59,28 @@ module _ (r : Row) (rs : List Row) (c : ℕ) where
       on true p = below (omega (arith, ltb-true))
       on false p = let q : ltb r.1 lo ≡ true = rw p at e in above (omega (arith, ltb-true))
 
+-- the first range that holds a code point has a type, and Other is one too
+coded : (t : CharacterType) → (1 ≤ code_of t) × (code_of t ≤ 6)
+coded Digit = (omega arith, omega arith)
+coded Roman = (omega arith, omega arith)
+coded Hiragana = (omega arith, omega arith)
+coded Katakana = (omega arith, omega arith)
+coded Kanji = (omega arith, omega arith)
+coded Other = (omega arith, omega arith)
+
+found : (rs : List Row) (c : ℕ) → (1 ≤ find rs c) × (find rs c ≤ 6)
+unfolding find when◌then◌else◌
+found [] c = (omega arith, omega arith)
+found (r ∷ rs) c = one_of (leb r.0 c && leb c r.1) (coded r.2) (found rs c)
+  where
+    one_of : (b : Bool) {x y : ℕ} → (1 ≤ x) × (x ≤ 6) → (1 ≤ y) × (y ≤ 6) → (1 ≤ (when b then x else y)) × ((when b then x else y) ≤ 6)
+    one_of true p q = p
+    one_of false p q = q
+
+pub has_code : (c : ℕ) → (1 ≤ type_of c) × (type_of c ≤ 6)
+unfolding type_of
+has_code c = found ranges c
+
 -- a run of one type
 uniformly : (rs : List Row) (lo hi t c : ℕ) → T (uniform rs lo hi t) → lo ≤ c → c ≤ hi → find rs c ≡ t
 unfolding find uniform
@@ -65,11 +89,11 @@ uniformly (r ∷ rs) lo hi t c u g h =
     either (ltb hi r.0 || ltb r.1 lo) _ _ u
     (λ e v. beside r rs c lo hi e g h ∙ uniformly rs lo hi t c v g h)
     (λ _ v.
-    let w = both (leb r.0 lo && leb hi r.1) (eqb r.2 t) v in
+    let w = both (leb r.0 lo && leb hi r.1) (eqb (code_of r.2) t) v in
     let ends = both (leb r.0 lo) (leb hi r.1) w.0 in
     let a : r.0 ≤ lo = leb→le _ _ ends.0 in
     let b : hi ≤ r.1 = leb→le _ _ ends.1 in
-    within r rs c (omega arith) (omega arith) ∙ eqb→eq r.2 t w.1)
+    within r rs c (omega arith) (omega arith) ∙ eqb→eq (code_of r.2) t w.1)
 
 -- numbers that are no characters have type 6
 pub surrogates : (c : ℕ) → 0xD800 ≤ c → c ≤ 0xDFFF → type_of c ≡ 6

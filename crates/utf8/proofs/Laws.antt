@@ -3,7 +3,7 @@ use Prim.Native.Nat.{ℕ, suc, ◌+◌, ◌*◌, ◌%◌, ◌≤◌, ◌<◌}
 use native.Mathlib.Omega.{arith}
 use native.Mathlib.Decide.{dec_le}
 use mathlib.Core.Path.{◌≡◌, sym, ap, ◌∙◌}
-use mathlib.Core.Logic.{inl, inr}
+use mathlib.Core.Logic.{◌⊎◌, inl, inr}
 use mathlib.Core.Bool.{Bool, true, ◌&&◌, and-eq-true_iff}
 use mathlib.Core.List.{List, [], ◌∷◌}
 use borrow.Author.Tests.{le-leb, ltb-true}
@@ -141,3 +141,7 @@ passed_bad s at d p q h = omega (arith, rw (chars_bad s at (sym p ∙ q)) at h.s
 pub passed_end : (s : List ℕ) (at : ℕ) → decode_at s at ≡ End → Passed s at → at ≡ valid_prefix s
 unfolding wholes
 passed_end s at e h = omega (arith, rw (chars_end s at e) at h.same)
+
+pub passed_stop : (s : List ℕ) (at : ℕ) (d : Decoded) → d ≡ decode_at s at → (d ≡ Bad) ⊎ (d ≡ End) → Passed s at → at ≡ valid_prefix s
+passed_stop s at d p (inl q) h = passed_bad s at d p q h
+passed_stop s at d p (inr q) h = passed_end s at (sym p ∙ q) h

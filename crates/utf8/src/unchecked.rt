@@ -3,6 +3,8 @@ ghost use Rattle.std.specs.Prelude.{◌≡◌, true, ◌+◌, ◌*◌, ◌%◌, 
 ghost use Rattle.utf8.specs.Utf8.{decode_at, is_char, scalar, encode, filled};
 ghost use Rattle.utf8.specs.declared.Decoded.TheVariants.{Char};
 
+use crate::behind;
+
 // A character and how many bytes it takes.
 #[derive(Clone, Copy)]
 pub struct Found {
@@ -10,19 +12,11 @@ pub struct Found {
     pub len: usize,
 }
 
-// The bytes of a scalar value, and 0 after them; `len` counts them.
+// The bytes of a scalar value, and 0 after them, since there is no heap; `len` counts them.
 #[derive(Clone, Copy)]
 pub struct Encoded {
     pub bytes: [u8; 4],
     pub len: usize,
-}
-
-// The low six bits of a byte of a character, behind those before it.
-fn behind(value: u32, b: u8) -> u32
-    requires { value < 32768 }
-    ensures { result ≡ value * 64 + b % 64 }
-{
-    value * 64 + b as u32 % 64
 }
 
 // The character at a place where one stands.
@@ -33,25 +27,25 @@ pub fn char_at(s: &[u8], at: usize) -> Found
     let a = s[at];
     if a <= 0x7F {
         return Found {
-            value: a as u32,
+            value: u32::from(a),
             len: 1,
         };
     }
     if a <= 0xDF {
         return Found {
-            value: behind(a as u32 % 32, s[at + 1]),
+            value: behind(u32::from(a % 32), s[at + 1]),
             len: 2,
         };
     }
     if a <= 0xEF {
         return Found {
-            value: behind(behind(a as u32 % 16, s[at + 1]), s[at + 2]),
+            value: behind(behind(u32::from(a % 16), s[at + 1]), s[at + 2]),
             len: 3,
         };
     }
     Found {
         value: behind(
-            behind(behind(a as u32 % 8, s[at + 1]), s[at + 2]),
+            behind(behind(u32::from(a % 8), s[at + 1]), s[at + 2]),
             s[at + 3],
         ),
         len: 4,

@@ -8,7 +8,7 @@ use native.Mathlib.Omega.{arith}
 use Rattle.sentence.specs.Sentence.{count}
 use Rattle.sentence.proofs.Keys.{key_copy}
 use Rattle.sheet.specs.declared.Record.{Record}
-use Rattle.sheet.specs.declared.Number.{Number}
+use Rattle.sheet.specs.Answers.{Number}
 use Rattle.sheet.specs.Layout.{Buffers, spell}
 use Rattle.write.specs.Answers.{line_order, no_range, Withholds, Keyed}
 use Rattle.write.proofs.Laws.{first_unseen}

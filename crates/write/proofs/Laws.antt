@@ -1,7 +1,8 @@
 -- The answers of a call that puts a line of a sheet, by what the check and the lengths say; and what its contract gives. Assumes nothing.
-use Prim.Native.Nat.{ℕ, ◌≤◌, ◌<◌}
+use Rattle.std.specs.Prelude.{Option, Some, None, Ok, Err}
+use Prim.Native.Nat.{ℕ, ◌≤◌}
 use mathlib.Core.Path.{◌≡◌, refl, sym, ap, ◌∙◌}
-use mathlib.Core.Bool.{Bool, true, false, not}
+use mathlib.Core.Bool.{Bool, true, false}
 use mathlib.Core.List.{List}
 use native.Mathlib.Omega.{arith}
 use borrow.Author.Tests.{lt-ltb, le-ltb, ltb-false, not-false}
@@ -12,8 +13,7 @@ use Rattle.laws.specs.Put.{over}
 use Rattle.sentence.specs.Refusals.{refusal, Check, verdict}
 use Rattle.sentence.specs.declared.Refusal.{Refusal}
 use Rattle.sheet.specs.declared.Record.{Record}
-use Rattle.sheet.specs.declared.Number.{Number}
-use Rattle.sheet.specs.declared.Number.TheVariants.{Is, Refused}
+use Rattle.sheet.specs.Answers.{Number}
 use Rattle.sheet.specs.Layout.{Buffers, spell, Sheet}
 use Rattle.sheet.specs.Check.{is_sheet}
 use Rattle.sheet.proofs.Exact.{holds_is, is_sheet_lem}
@@ -24,30 +24,33 @@ use Rattle.write_items.proofs.Room.{short_none, short_some}
 use Rattle.write.specs.Answers.{Puts, line_order, PutsLine}
 
 -- ---- the answers: g is what the check answered
-module _ (r : Record) (d : Buffers) (outside : Bool) (first : ℕ) (w out : List ℕ) (g : Bool) (e : g ≡ is_sheet r d) where
-  pub put_13 : {a : Number} → not g ≡ true → a ≡ Refused (refusal 13 0) → PutsLine r d outside first w out a out
+pub sound : {r : Record} {d : Buffers} {g : Bool} → g ≡ is_sheet r d → g ≡ true → Sheet r d
+sound {r} {d} e h = is_sheet_lem r d (sym e ∙ h)
+
+module _ (r : Record) (d : Buffers) (outside : Bool) (first : ℕ) (w out : List ℕ) {g : Bool} (e : g ≡ is_sheet r d) where
+  pub put_13 : g ≡ false → PutsLine r d outside first w out (Err (refusal 13 0)) out
   unfolding line_order verdict when◌then◌else◌
-  put_13 h q = record { answer_is = rw (← e, h) q; out_is = rw (← e, h) }
+  put_13 h = record { answer_is = rw (← e, h); out_is = rw (← e, h) }
 
-  module _ (h : not g ≡ false) where
-    pub put_14 : {a : Number} → outside ≡ true → a ≡ Refused (refusal 14 first) → PutsLine r d outside first w out a out
+  module _ (h : g ≡ true) where
+    pub put_14 : {q : Refusal} → outside ≡ true → q ≡ refusal 14 first → PutsLine r d outside first w out (Err q) out
     unfolding line_order verdict when◌then◌else◌
-    put_14 o q = record { answer_is = rw (← e, h, o) q; out_is = rw (← e, h, o) }
+    put_14 o q = record { answer_is = rw (← e, h, o) (ap Err q); out_is = rw (← e, h, o) }
 
-    -- n is the length that is lacking
-    module _ (o : outside ≡ false) (n : ℕ) (m : n ≡ short_of (length out) (length w)) where
-      pub put_12 : {a : Number} → 0 < n → a ≡ Refused (refusal 12 n) → PutsLine r d outside first w out a out
+    -- n is the length that is lacking, if one is
+    module _ (o : outside ≡ false) {n : Option ℕ} (m : n ≡ short_of (length out) (length w)) where
+      pub put_12 : {k : ℕ} {q : Refusal} → n ≡ Some k → q ≡ refusal 12 k → PutsLine r d outside first w out (Err q) out
       unfolding line_order verdict when◌then◌else◌
       put_12 l q =
           let k = short_some (length out) (length w) m l in
           let t = lt-ltb (length out) (length w) k.1 in
-          record { answer_is = rw (← e, h, o, t, ← k.0) q; out_is = rw (← e, h, o, t) }
+          record { answer_is = rw (← e, h, o, t, ← k.0) (ap Err q); out_is = rw (← e, h, o, t) }
 
-      pub put_line : {a : ℕ} {out' : List ℕ} → n ≤ 0 → Lined w out out' a → PutsLine r d outside first w out (Is a) out'
+      pub put_line : {a : ℕ} {out' : List ℕ} → n ≡ None → Lined w out out' a → PutsLine r d outside first w out (Ok a) out'
       unfolding line_order verdict when◌then◌else◌
       put_line l v =
           let t = le-ltb (length out) (length w) (short_none (length out) (length w) m l) in
-          record { answer_is = rw (← e, h, o, t) (ap Is v.length_is); out_is = rw (← e, h, o, t) v.out_is }
+          record { answer_is = rw (← e, h, o, t) (ap Ok v.length_is); out_is = rw (← e, h, o, t) v.out_is }
 
 -- ---- two outcomes of one call are equal
 pub puts_once : {A B : Type 0} {tell : Number → A} {checks : List Check} {w out : List B} {a a' : A} {o o' : List B}
@@ -62,10 +65,10 @@ pub record Took (r : Record) (d : Buffers) (w out : List ℕ) (n : ℕ) (out' : 
   pub out_is : out' ≡ over w out
 
 module _ (r : Record) (d : Buffers) (outside : Bool) (first : ℕ) {w out : List ℕ} where
-  pub took : {out' : List ℕ} {a : Number} {n : ℕ} → PutsLine r d outside first w out a out' → a ≡ Is n → Took r d w out n out'
+  pub took : {out' : List ℕ} {a : Number} {n : ℕ} → PutsLine r d outside first w out a out' → a ≡ Ok n → Took r d w out n out'
   unfolding line_order verdict when◌then◌else◌
   took {n = n} p e =
-      let k = passed Refused (Is n) (λ x z. apart x z) (line_order r d outside first w (length out)) (Is (length w)) (sym p.answer_is ∙ e) in
+      let k = passed Err (Ok n) (λ x z. apart x z) (line_order r d outside first w (length out)) (Ok (length w)) (sym p.answer_is ∙ e) in
       let l : length w ≡ n = cc k.1 in
       record {
         sheet = is_sheet_lem r d (not-false _ k.0.0);
@@ -74,15 +77,15 @@ module _ (r : Record) (d : Buffers) (outside : Bool) (first : ℕ) {w out : List
         out_is = p.out_is ∙ rw (k.0.0, k.0.1.0, k.0.1.1.0);
       }
     where
-      apart : (x : Refusal) → Refused x ≡ Is n → ⊥
+      apart : (x : Refusal) → Err x ≡ Ok n → ⊥
       apart x z = let q : ◌≡◌ {A = ℕ} 0 1 = cc in omega arith
 
   -- the line stands at the front of the output
-  pub front : {out' : List ℕ} {a : Number} {n : ℕ} → PutsLine r d outside first w out a out' → a ≡ Is n → take n out' ≡ w
+  pub front : {out' : List ℕ} {a : Number} {n : ℕ} → PutsLine r d outside first w out a out' → a ≡ Ok n → take n out' ≡ w
   front p e = let t = took p e in rw (t.out_is, t.length_is) (take_at w _ (length w) refl)
 
   -- given room, a line of a sheet is put
-  pub serves : Sheet r d → outside ≡ false → length w ≤ length out → PutsLine r d outside first w out (Is (length w)) (over w out)
+  pub serves : Sheet r d → outside ≡ false → length w ≤ length out → PutsLine r d outside first w out (Ok (length w)) (over w out)
   unfolding line_order verdict when◌then◌else◌
   serves h o l =
       let i = holds_is r d (spell r d) h in

@@ -1,6 +1,6 @@
 -- What the writers answer, and what they leave in the output: 13 where there is no sheet, 14 where a range is none of its characters, then 12 where
 -- the output is too short.
-use Rattle.std.specs.Prelude.{ℕ, ◌≡◌, Bool, false, not, ◌||◌, List, ltb, length}
+use Rattle.std.specs.Prelude.{ℕ, ◌≡◌, Bool, false, not, ◌||◌, List, ltb, length, Ok, Err}
 use Rattle.laws.specs.Put.{over}
 use Rattle.sentence.specs.Sentence.{count}
 use Rattle.sentence.specs.declared.Form.{Form}
@@ -9,14 +9,13 @@ use Rattle.sentence.specs.Writing.{written, key}
 use Rattle.sentence.specs.Withheld.{withheld}
 use Rattle.sentence.specs.Refusals.{Check, verdict, sheet_order}
 use Rattle.sheet.specs.declared.Record.{Record}
-use Rattle.sheet.specs.declared.Number.{Number}
-use Rattle.sheet.specs.declared.Number.TheVariants.{Is, Refused}
+use Rattle.sheet.specs.Answers.{Number}
 use Rattle.sheet.specs.Layout.{Buffers, spell}
 use Rattle.sheet.specs.Check.{is_sheet}
 
 -- the answer, as told, and the output after it: the line w over its front, or the first of these refusals, which alters nothing
 pub record Puts {A B : Type 0} (tell : Number → A) (checks : List Check) (w out : List B) (answer : A) (out' : List B) : Type 0 where
-  pub answer_is : answer ≡ tell (verdict Refused checks (Is (length w)))
+  pub answer_is : answer ≡ tell (verdict Err checks (Ok (length w)))
   pub out_is : out' ≡ verdict (λ e. out) checks (over w out)
 
 -- a line of a sheet, and room for so many bytes: 13, then 14 at the first number given where one is out of range, then 12 at the bytes needed

@@ -30,13 +30,6 @@ module _ (ss ls : List ℕ) where
   pub bytes_next : (k : ℕ) → bytes_to ss ls (k + 1) ≡ get_or ss k 0 + get_or ls k 0
   bytes_next k = rw add-one
 
-  -- none before the first, and behind another where that ends
-  pub bytes_none : (k : ℕ) → k ≡ 0 → 0 ≡ bytes_to ss ls k
-  bytes_none k e = rw e
-
-  pub bytes_behind : (k : ℕ) {t : ℕ} → (k ≡ 0 → ⊥) → t ≡ get_or ss (k - 1) 0 + get_or ls (k - 1) 0 → t ≡ bytes_to ss ls k
-  bytes_behind k z e = let q : suc (k - 1) ≡ k = omega arith in rw (← q) e
-
   -- one cell more
   bytes_more : (k n : ℕ) → Follow ss ls (k + suc n) → bytes_to ss ls (k + suc n) ≡ bytes_to ss ls (k + n) + get_or ls (k + n) 0
   bytes_more k n h = let e : k + suc n ≡ suc (k + n) = omega arith in rw e (omega (arith, h.follows (k + n) (omega arith)))
@@ -84,9 +77,6 @@ pub count_empty : (ls : List ℕ) (m i : ℕ) → m ≡ 0 → 0 ≡ count_at ls 
 count_empty ls m i z = omega (arith, used_few ls (i * m) m)
 
 module _ {ss ls : List ℕ} (m i : ℕ) (h : Follow ss ls (i * m + m)) where
-  pub count_fits : Fits w64 (i * m)
-  count_fits = omega (arith, h.few)
-
   pub count_end : {c : ℕ} → c ≡ count_at ls m i → Fits w64 (i * m + c)
   count_end e = omega (arith, h.few, used_few ls (i * m) m)
 

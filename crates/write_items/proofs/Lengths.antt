@@ -13,7 +13,7 @@ use Rattle.sentence.specs.declared.Form.TheVariants.{Tokenized as tokenized, Par
 use Rattle.sentence.specs.Writing.{escape, write_tags}
 use Rattle.sentence.proofs.Trips.{escape_append}
 use Rattle.sheet.proofs.Look.{stretch_left}
-use Rattle.write_items.specs.Items.{cell_tag, cell_tags, row_at, count_at, bytes_to, row_line, Lie, RowLies, TextLies, text_at, char_line, token_line}
+use Rattle.write_items.specs.Items.{cell_tag, cell_tags, row_at, count_at, bytes_to, row_line, Lie, RowLies, TextLies, text_at, char_line}
 use Rattle.write_items.proofs.Cells.{fewer_lie, bytes_next, bytes_rise, used_few, used_bytes}
 use Rattle.write_items.proofs.Tags.{row_split}
 
@@ -92,17 +92,3 @@ char_sum n text ps ss ls d m i t h =
     let e : (i + 1) * m ≡ i * m + m = omega arith in
     let s = row_sum ss ls d m i refl refl h partial n in
     rw e (omega (arith, s, text_long ps text i t, length-append (text_at ps text i (i + 1)) (row_line partial n (row_at ss ls d m i))))
-
--- a token takes its text, escaped, and the row of its last character
-pub token_long : (n : ℕ) (text ps ss ls d : List ℕ) (b e x y : ℕ) {t u : ℕ} → x ≡ get_or ps b 0 → y ≡ get_or ps e 0
-    → t ≡ length (escape tokenized (drop x (take y text))) → u ≡ length (row_line tokenized n (row_at ss ls d n (e - 1)))
-    → t + u ≡ length (token_line n text ps ss ls d b e)
-token_long n text ps ss ls d b e x y p q t u = rw (length-append, ← p, ← q) (omega arith)
-
-pub token_room : (n : ℕ) (text ps ss ls d : List ℕ) (b e x y : ℕ) {t u : ℕ} → x ≡ get_or ps b 0 → y ≡ get_or ps e 0
-    → t ≡ length (escape tokenized (drop x (take y text))) → u ≡ length (row_line tokenized n (row_at ss ls d n (e - 1)))
-    → length (token_line n text ps ss ls d b e) < 2 ^ 32 → Fits w64 (t + u)
-token_room n text ps ss ls d b e x y p q t u h = omega (arith, token_long n text ps ss ls d b e x y p q t u)
-
-pub token_row : (n : ℕ) (text ps ss ls d : List ℕ) (b e : ℕ) → length (token_line n text ps ss ls d b e) < 2 ^ 32 → length (row_line tokenized n (row_at ss ls d n (e - 1))) < 2 ^ 32
-token_row n text ps ss ls d b e h = omega (arith, length-append (escape tokenized (text_at ps text b e)) (row_line tokenized n (row_at ss ls d n (e - 1))))

@@ -1,6 +1,7 @@
 -- The bound of a line, how long tags are as they are written, and what is said of too little room. Assumes nothing.
 use Prim.Native.Nat.{ℕ, zero, suc, ◌+◌, ◌-◌, ◌*◌, ◌≤◌, ◌<◌}
-use mathlib.Core.Path.{◌≡◌, refl, ap, ◌∙◌}
+use Rattle.std.specs.Prelude.{Option, Some, None}
+use mathlib.Core.Path.{◌≡◌, refl, sym, ap, ◌∙◌}
 use mathlib.Core.Bool.{Bool, true, false}
 use mathlib.Core.List.{List, [], ◌∷◌, ◌++◌, map}
 use native.Mathlib.Nat.{mul-le-mul}
@@ -60,30 +61,30 @@ row_most f n c r h l =
 
 -- ---- too little room: there is enough by the bound, or by the length, or there is not
 module _ (room n : ℕ) where
-  pub short_most : (m : ℕ) → n ≤ m → m ≤ room → 0 ≡ short_of room n
+  pub short_most : (m : ℕ) → n ≤ m → m ≤ room → None ≡ short_of room n
   unfolding short_of when◌then◌else◌
   short_most m h k = rw (le-ltb room n (omega arith))
 
-  pub short_enough : {k : ℕ} → k ≡ n → k ≤ room → 0 ≡ short_of room n
+  pub short_enough : {k : ℕ} → k ≡ n → k ≤ room → None ≡ short_of room n
   short_enough {k} e h = short_most n (omega arith) (omega arith)
 
-  pub short_needed : {k : ℕ} → k ≡ n → room < k → k ≡ short_of room n
+  pub short_needed : {k : ℕ} → k ≡ n → room < k → Some k ≡ short_of room n
   unfolding short_of when◌then◌else◌
-  short_needed e h = rw (lt-ltb room n (omega arith)) e
+  short_needed e h = rw (lt-ltb room n (omega arith), e)
 
   -- and what a caller has of the answer
-  pub short_none : {k : ℕ} → k ≡ short_of room n → k ≤ 0 → n ≤ room
+  pub short_none : {k : Option ℕ} → k ≡ short_of room n → k ≡ None → n ≤ room
   unfolding short_of when◌then◌else◌
   short_none {k} e h = on (ltb room n) refl
     where
       on : (t : Bool) → ltb room n ≡ t → n ≤ room
-      on true q = omega (arith, rw q at e, ltb-true room n q)
+      on true q = let z : Some n ≡ None = sym (rw q at e) ∙ h in cc
       on false q = ltb-false room n q
 
-  pub short_some : {k : ℕ} → k ≡ short_of room n → 0 < k → (k ≡ n) × (room < n)
+  pub short_some : {k : Option ℕ} {l : ℕ} → k ≡ short_of room n → k ≡ Some l → (l ≡ n) × (room < n)
   unfolding short_of when◌then◌else◌
-  short_some {k} e h = on (ltb room n) refl
+  short_some {k} {l} e h = on (ltb room n) refl
     where
-      on : (t : Bool) → ltb room n ≡ t → (k ≡ n) × (room < n)
-      on true q = (rw q at e, ltb-true room n q)
-      on false q = absurd (omega (arith, rw q at e))
+      on : (t : Bool) → ltb room n ≡ t → (l ≡ n) × (room < n)
+      on true q = let z : Some n ≡ Some l = sym (rw q at e) ∙ h in (cc, ltb-true room n q)
+      on false q = let z : None ≡ Some l = sym (rw q at e) ∙ h in cc

@@ -7,9 +7,10 @@ use lib.ListN.{length, take, drop, get_or, set, replicate, length-append, length
 use Rattle.sentence.specs.Sentence.{pad}
 use Rattle.sentence.specs.declared.Form.{Form}
 use Rattle.sentence.specs.Writing.{escape, write_tags}
+use Rattle.sheet.proofs.Look.{stretch_left}
 use Rattle.write_escape.specs.Wrote.{Wrote, wrote_both, wrote_long, Writing, write_start, write_byte, write_item, write_fits, write_done}
 use Rattle.write_escape.proofs.Encoded.{tags_append, tags_absent}
-use Rattle.write_items.specs.Items.{cell_tag, cell_tags, row_at, count_at, row_line, Lie, RowLies, TextLies, text_at}
+use Rattle.write_items.specs.Items.{cell_tag, cell_tags, row_at, count_at, row_line, Lie, RowLies}
 use Rattle.write_items.proofs.Cells.{used_few, fewer_lie}
 
 -- ---- the tags from the j-th cell up to e
@@ -40,18 +41,23 @@ tags_start f ss ls d k e out at h p r = record { upto = h; lies = p; writing = w
 module _ {f : Form} {ss ls d : List ℕ} {e : ℕ} {out₀ : List ℕ} {at : ℕ} {all out : List ℕ} {j n : ℕ} (t : Tagging f ss ls d e out₀ at all out j n) where
   -- the next tag, whose bytes are those from `from` up to `to`
   module _ {from to : ℕ} (h : j < e) (p : from ≡ get_or ss j 0) (q : to ≡ get_or ss j 0 + get_or ls j 0) where
-    tag_left : write_tags f (cell_tags ss ls d j (e - j)) ≡ 47 ∷ (escape f (drop from (take to d)) ++ write_tags f (cell_tags ss ls d (j + 1) (e - (j + 1))))
+    abbrev part : List ℕ
+    part = escape f (take (to - from) (drop from d))
+
+    tag_left : write_tags f (cell_tags ss ls d j (e - j)) ≡ 47 ∷ (part ++ write_tags f (cell_tags ss ls d (j + 1) (e - (j + 1))))
     unfolding write_tags cell_tag
-    tag_left = rw (tags_step ss ls d j e h, p, q)
+    tag_left = rw (← (stretch_left d from to), tags_step ss ls d j e h, p, q)
 
     pub tag_byte : n < length out
     tag_byte = omega (arith, write_fits t.writing (47 ∷ []) _ tag_left)
 
-    pub tag_part : (from ≤ to) × (to ≤ length d) × (n + 1 + length (escape f (drop from (take to d))) ≤ length (set out n 47))
-    tag_part =
-        (omega arith, omega (arith, t.lies.within j h), omega (arith, length-set out n 47, write_fits t.writing (47 ∷ escape f (drop from (take to d))) _ tag_left))
+    pub tag_within : to ≤ length d
+    tag_within = omega (arith, t.lies.within j h)
 
-    pub tag_turn : {out' : List ℕ} {n' : ℕ} → Wrote (set out n 47) (n + 1) (escape f (drop from (take to d))) out' n' → Tagging f ss ls d e out₀ at all out' (j + 1) n'
+    pub tag_part : n + 1 + length part ≤ length (set out n 47)
+    tag_part = omega (arith, length-set out n 47, write_fits t.writing (47 ∷ part) _ tag_left)
+
+    pub tag_turn : {out' : List ℕ} {n' : ℕ} → Wrote (set out n 47) (n + 1) part out' n' → Tagging f ss ls d e out₀ at all out' (j + 1) n'
     tag_turn w = record {
       upto = omega arith;
       lies = t.lies;
@@ -62,7 +68,7 @@ module _ {f : Form} {ss ls d : List ℕ} {e : ℕ} {out₀ : List ℕ} {at : ℕ
   unfolding write_tags
   tags_done h = write_done t.writing (rw (tags_none ss ls d j e h))
 
-pub ruleset tagging = (tags_start, tag_byte, tag_part, tag_turn, tags_done)
+pub ruleset tagging = (tags_start, tag_byte, tag_within, tag_part, tag_turn, tags_done)
 
 -- ---- a row: the c tags that it lists, then absent ones up to n columns
 module _ (f : Form) (n : ℕ) (ss ls d : List ℕ) (m i : ℕ) {c : ℕ} (a : c ≡ count_at ls m i) where
@@ -89,34 +95,3 @@ module _ (f : Form) (n : ℕ) (ss ls d : List ℕ) (m i : ℕ) {c : ℕ} (a : c 
 
     pub row_full : n ≤ c → Wrote o₀ i₀ (row_line f n (row_at ss ls d m i)) o₁ i₁
     row_full h = let z : n - c ≡ 0 = omega arith in rw (row_split, z, append-nil) v
-
--- ---- two items one after the other
-module _ (vs ws : List ℕ) (out : List ℕ) (at : ℕ) (r : at + length (vs ++ ws) ≤ length out) where
-  pub first_fits : at + length vs ≤ length out
-  first_fits = omega (arith, length-append vs ws)
-
-  pub then_fits : {out' : List ℕ} {m : ℕ} → Wrote out at vs out' m → m + length ws ≤ length out'
-  then_fits w = omega (arith, length-append vs ws, w.end, wrote_long w)
-
--- ---- the text of characters b up to e
-module _ (ps text : List ℕ) (b e x y : ℕ) (a : x ≡ get_or ps b 0) (z : y ≡ get_or ps e 0) where
-  pub text_asks : (at : ℕ) (out : List ℕ) → TextLies ps text b e → at + length (text_at ps text b e) ≤ length out → (x ≤ y) × (y ≤ length text) × (at + length (drop x (take y text)) ≤ length out)
-  text_asks at out h r = (omega (arith, h.rises), omega (arith, h.within), rw (a, z) r)
-
-  pub text_wrote : {o₀ o₁ : List ℕ} {i₀ i₁ : ℕ} → Wrote o₀ i₀ (drop x (take y text)) o₁ i₁ → Wrote o₀ i₀ (text_at ps text b e) o₁ i₁
-  text_wrote w = rw (← a, ← z) w
-
--- ---- the text of characters b up to e, copied by F, and then a row that is written as `ws`
-module _ (F : List ℕ → List ℕ) (ps text : List ℕ) (b e x y : ℕ) (a : x ≡ get_or ps b 0) (z : y ≡ get_or ps e 0) (ws : List ℕ) where
-  module _ (out : List ℕ) (at : ℕ) (r : at + length (F (text_at ps text b e) ++ ws) ≤ length out) where
-    both_fit : at + length (F (drop x (take y text))) + length ws ≤ length out
-    both_fit = rw (a, z) (omega (arith, length-append (F (text_at ps text b e)) ws))
-
-    pub text_first : TextLies ps text b e → (x ≤ y) × (y ≤ length text) × (at + length (F (drop x (take y text))) ≤ length out)
-    text_first h = (omega (arith, h.rises), omega (arith, h.within), omega (arith, both_fit))
-
-    pub text_then : {out' : List ℕ} {m : ℕ} → Wrote out at (F (drop x (take y text))) out' m → m + length ws ≤ length out'
-    text_then w = omega (arith, both_fit, w.end, wrote_long w)
-
-  pub text_both : {o₀ o₁ o₂ : List ℕ} {i₀ i₁ i₂ : ℕ} → Wrote o₀ i₀ (F (drop x (take y text))) o₁ i₁ → Wrote o₁ i₁ ws o₂ i₂ → Wrote o₀ i₀ (F (text_at ps text b e) ++ ws) o₂ i₂
-  text_both v w = rw (← a, ← z) (wrote_both v w)

@@ -1,11 +1,12 @@
 -- Slices of a buffer that are told by where they start and how long they are: the tags of tag bytes, and the rows of tags.
-use Rattle.std.specs.Prelude.{ℕ, zero, suc, ◌+◌, ◌-◌, ◌*◌, ◌≤◌, ◌<◌, ◌≡◌, List, [], ◌∷◌, ◌++◌, eqb, ltb, length, take, drop, get_or}
+use Rattle.std.specs.Prelude.{ℕ, zero, suc, ◌+◌, ◌-◌, ◌*◌, ◌≤◌, ◌<◌, ◌≡◌, List, [], ◌∷◌, ◌++◌, eqb, Option, Some, None, ltb, length, take, drop, get_or}
 use Rattle.laws.specs.If.{when◌then◌else◌}
 use Rattle.sentence.specs.Sentence.{Tag, pad}
 use Rattle.sentence.specs.declared.Form.{Form}
 use Rattle.sentence.specs.declared.Form.TheVariants.{Tokenized as tokenized, Partial as partial}
 use Rattle.sentence.specs.Writing.{escape, write_tags}
 use Rattle.sheet.specs.declared.Record.{Record}
+use Rattle.sheet.specs.declared.Sheet.{Sheet as Lent}
 
 -- the tag of the k-th cell, as bytes
 unfoldable pub cell_tag : List ℕ → List ℕ → List ℕ → ℕ → Tag
@@ -73,6 +74,44 @@ char_line n text ps ss ls d m i = text_at ps text i (i + 1) ++ row_line partial 
 abbrev pub token_line : ℕ → List ℕ → List ℕ → List ℕ → List ℕ → List ℕ → ℕ → ℕ → List ℕ
 token_line n text ps ss ls d b e = escape tokenized (text_at ps text b e) ++ row_line tokenized n (row_at ss ls d n (e - 1))
 
+-- ---- the same of a sheet's buffers, whose rows have as many cells as its record says
+-- its first n cells follow one another, and its i-th row lies in its tag bytes
+abbrev pub FollowIn : Lent → ℕ → Type 0
+FollowIn s n = Follow s.cell_starts.now s.cell_lengths.now n
+
+abbrev pub RowIn : Lent → ℕ → Type 0
+RowIn s i = RowLies s.cell_starts.now s.cell_lengths.now s.tag_bytes.now s.record.columns i
+
+-- its characters from b up to e lie in its text
+abbrev pub TextIn : Lent → ℕ → ℕ → Type 0
+TextIn s b e = TextLies s.char_pos.now s.text.now b e
+
+-- how many tags its i-th row lists
+abbrev pub count_in : Lent → ℕ → ℕ
+count_in s i = count_at s.cell_lengths.now s.record.columns i
+
+-- how many tag bytes stand before its k-th cell
+abbrev pub bytes_in : Lent → ℕ → ℕ
+bytes_in s k = bytes_to s.cell_starts.now s.cell_lengths.now k
+
+-- the tags of its cells from the k-th up to e, as they are written
+abbrev pub tags_in : Form → Lent → ℕ → ℕ → List ℕ
+tags_in f s k e = write_tags f (cell_tags s.cell_starts.now s.cell_lengths.now s.tag_bytes.now k (e - k))
+
+-- its i-th row as it is written with n columns
+abbrev pub row_in : Form → ℕ → Lent → ℕ → List ℕ
+row_in f n s i = row_line f n (row_at s.cell_starts.now s.cell_lengths.now s.tag_bytes.now s.record.columns i)
+
+-- the bytes of its characters from b up to e, its i-th character with n columns, and the token from b up to e
+abbrev pub text_in : Lent → ℕ → ℕ → List ℕ
+text_in s b e = text_at s.char_pos.now s.text.now b e
+
+abbrev pub char_in : ℕ → Lent → ℕ → List ℕ
+char_in n s i = char_line n s.text.now s.char_pos.now s.cell_starts.now s.cell_lengths.now s.tag_bytes.now s.record.columns i
+
+abbrev pub token_in : Lent → ℕ → ℕ → List ℕ
+token_in s b e = token_line s.record.columns s.text.now s.char_pos.now s.cell_starts.now s.cell_lengths.now s.tag_bytes.now b e
+
 -- ---- room for a line
 -- no line of a sheet is longer: every byte escaped, all columns of every character, and a sign or a space behind it
 unfoldable pub most_of : Record → ℕ
@@ -85,6 +124,6 @@ pub record Limited (r : Record) : Type 0 where
   pub columns_few : r.columns ≤ 4096
   pub g_few : r.g ≤ 65535
 
--- the length needed where there is less room, and else 0
-unfoldable pub short_of : ℕ → ℕ → ℕ
-short_of room n = when ltb room n then n else 0
+-- the length needed, where there is less room
+unfoldable pub short_of : ℕ → ℕ → Option ℕ
+short_of room n = when ltb room n then Some n else None

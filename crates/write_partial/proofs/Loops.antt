@@ -1,5 +1,5 @@
 -- What the loops over a stretch of characters go by: one that writes it, one that writes it without labels, one that counts its slashes. Assumes nothing.
-use Prim.Native.Nat.{ℕ, suc, ◌+◌, ◌-◌, ◌*◌, ◌^◌, ◌≤◌, ◌<◌}
+use Prim.Native.Nat.{ℕ, suc, ◌+◌, ◌-◌, ◌^◌, ◌≤◌, ◌<◌}
 use mathlib.Core.Path.{◌≡◌, refl, sym, ◌∙◌}
 use mathlib.Core.Bool.{true, false}
 use mathlib.Core.List.{List, [], ◌∷◌, ◌++◌}
@@ -8,13 +8,13 @@ use borrow.Author.Tests.{eq-eqb, ne_eqb}
 use mir.Val.{Fits}
 use mir.Syntax.{w64}
 use lib.Dec.{eqb}
-use lib.ListN.{length, get_or, set, replicate, length-append, length-replicate}
+use lib.ListN.{length, get_or, set}
 use Rattle.laws.specs.If.{when◌then◌else◌, if_true, if_false}
 use Rattle.sentence.specs.Writing.{sign}
 use Rattle.sheet.specs.Layout.{mark_of}
-use Rattle.write_escape.specs.Wrote.{Wrote, wrote_long, Writing, write_start, write_byte, write_item, write_fits, write_done}
-use Rattle.write_items.specs.Items.{count_at, Follow, RowLies, TextLies, text_at, char_line}
-use Rattle.write_partial.specs.Line.{Spread, Rows, stretch_of, covered_of, bare_of, slashes_of}
+use Rattle.write_escape.specs.Wrote.{Wrote, Writing, write_byte, write_item, write_fits, write_done}
+use Rattle.write_items.specs.Items.{count_at, RowLies, TextLies, text_at, char_line}
+use Rattle.write_partial.specs.Line.{Spread, Rows, stretch_of, covered_of, slashes_of}
 
 -- ---- a stretch with its labels: the loop is at the i-th character, and at `at` in the output
 pub record Stretching (text bs ps ss ls ds : List ℕ) (m n upto : ℕ) (out₀ : List ℕ) (at₀ : ℕ) (all out : List ℕ) (at i : ℕ) : Type 0 where
@@ -24,15 +24,7 @@ pub record Stretching (text bs ps ss ls ds : List ℕ) (m n upto : ℕ) (out₀ 
   pub here : i ≤ upto
   pub writing : Writing out₀ at₀ all out at (stretch_of text bs ps ss ls ds m n i (upto - i))
 
-pub stretch_start : {text bs ps ss ls ds : List ℕ} {m : ℕ} (n : ℕ) {upto : ℕ} (out : List ℕ) (at i : ℕ) → Spread ps text upto → Rows ss ls ds m upto → i ≤ upto → upto ≤ length bs
-    → at + length (stretch_of text bs ps ss ls ds m n i (upto - i)) ≤ length out
-    → Stretching text bs ps ss ls ds m n upto out at (stretch_of text bs ps ss ls ds m n i (upto - i)) out at i
-stretch_start n out at i t w l o h = record { spread = t; rows = w; long = o; here = l; writing = write_start out at _ h }
-
 module _ {text bs ps ss ls ds : List ℕ} {m : ℕ} {n upto : ℕ} {out₀ : List ℕ} {at₀ : ℕ} {all out : List ℕ} {at i : ℕ} (t : Stretching text bs ps ss ls ds m n upto out₀ at₀ all out at i) where
-  pub stretch_reads : i < upto → i < length bs
-  stretch_reads l = omega (arith, t.long)
-
   module _ (l : i < upto) {w : ℕ} (q : w ≡ (when eqb (get_or bs i 0) 1 then n else 0)) where
     stretch_left : stretch_of text bs ps ss ls ds m n i (upto - i)
         ≡ char_line w text ps ss ls ds m i ++ (sign (mark_of (get_or bs i 0)) ∷ stretch_of text bs ps ss ls ds m n (i + 1) (upto - (i + 1)))
@@ -65,10 +57,6 @@ pub record Covering (text ps : List ℕ) (upto : ℕ) (out₀ : List ℕ) (at₀
   pub here : i ≤ upto
   pub writing : Writing out₀ at₀ all out at (covered_of text ps i (upto - i))
 
-pub cover_start : {text ps : List ℕ} {upto : ℕ} (out : List ℕ) (at i : ℕ) → Spread ps text upto → i ≤ upto → at + length (covered_of text ps i (upto - i)) ≤ length out
-    → Covering text ps upto out at (covered_of text ps i (upto - i)) out at i
-cover_start out at i t l h = record { spread = t; here = l; writing = write_start out at _ h }
-
 module _ {text ps : List ℕ} {upto : ℕ} {out₀ : List ℕ} {at₀ : ℕ} {all out : List ℕ} {at i : ℕ} (t : Covering text ps upto out₀ at₀ all out at i) where
   module _ (l : i < upto) where
     cover_left : covered_of text ps i (upto - i) ≡ text_at ps text i (i + 1) ++ (32 ∷ covered_of text ps (i + 1) (upto - (i + 1)))
@@ -85,26 +73,12 @@ module _ {text ps : List ℕ} {upto : ℕ} {out₀ : List ℕ} {at₀ : ℕ} {al
       pub cover_byte : at' < length out'
       cover_byte = omega (arith, write_fits cover_behind (32 ∷ []) _ refl)
 
-      pub cover_inside : at' < length out₀
-      cover_inside = omega (arith, cover_byte, cover_behind.long)
-
       pub cover_next : Covering text ps upto out₀ at₀ all (set out' at' 32) (at' + 1) (i + 1)
       cover_next = record { spread = t.spread; here = omega arith; writing = write_byte cover_behind refl }
 
   pub cover_done : upto ≤ i → Wrote out₀ at₀ all out at
   unfolding covered_of
   cover_done l = let k : upto - i ≡ 0 = omega arith in write_done t.writing (rw k)
-
--- ---- a character without its labels: its text, then its columns
-module _ (text ps : List ℕ) (n i at : ℕ) (out : List ℕ) (room : at + length (bare_of text ps n i) ≤ length out) where
-  bare_long : length (bare_of text ps n i) ≡ length (text_at ps text i (i + 1)) + n
-  bare_long = length-append (text_at ps text i (i + 1)) (replicate n 47) ∙ rw (length-replicate {A = ℕ} n 47)
-
-  pub bare_text : at + length (text_at ps text i (i + 1)) ≤ length out
-  bare_text = omega (arith, bare_long)
-
-  pub bare_columns : {out' : List ℕ} {at' : ℕ} → Wrote out at (text_at ps text i (i + 1)) out' at' → at' + n ≤ length out'
-  bare_columns c = omega (arith, bare_long, c.end, wrote_long c)
 
 -- ---- the slashes of a stretch: those from the i-th character on are left to count
 pub record Slashing (bs ss ls ds : List ℕ) (m n upto all sum i : ℕ) : Type 0 where
@@ -114,18 +88,8 @@ pub record Slashing (bs ss ls ds : List ℕ) (m n upto all sum i : ℕ) : Type 0
   pub few : all < 2 ^ 32
   pub same : sum + slashes_of bs ls m n i (upto - i) ≡ all
 
-pub slash_start : {bs ss ls ds : List ℕ} {m : ℕ} (n : ℕ) {upto : ℕ} (i : ℕ) → Rows ss ls ds m upto → i ≤ upto → upto ≤ length bs → slashes_of bs ls m n i (upto - i) < 2 ^ 32
-    → Slashing bs ss ls ds m n upto (slashes_of bs ls m n i (upto - i)) 0 i
-slash_start n i w l o h = record { rows = w; long = o; here = l; few = h; same = omega arith }
-
 module _ {bs ss ls ds : List ℕ} {m : ℕ} {n upto all sum i : ℕ} (t : Slashing bs ss ls ds m n upto all sum i) where
   module _ (l : i < upto) where
-    pub slash_reads : i < length bs
-    slash_reads = omega (arith, t.long)
-
-    pub slash_asks : Follow ss ls (i * m + m)
-    slash_asks = (t.rows.lies i l).cells
-
     left : slashes_of bs ls m n i (upto - i) ≡ (when eqb (get_or bs i 0) 1 then n else count_at ls m i) + slashes_of bs ls m n (i + 1) (upto - (i + 1))
     unfolding slashes_of
     left = let k : upto - i ≡ suc (upto - (i + 1)) = omega arith in rw k

@@ -1,5 +1,6 @@
 -- The sentence that is written of a sheet, with a range of its characters hidden: its characters, boundaries and rows. Assumes nothing.
 use Prim.Native.Nat.{ℕ, zero, suc, ◌+◌, ◌-◌, ◌≤◌, ◌<◌}
+use Rattle.std.specs.Prelude.{Option}
 use mathlib.Core.Path.{◌≡◌, refl, ap, ◌∙◌}
 use mathlib.Core.Bool.{true, false}
 use mathlib.Core.List.{List, [], ◌∷◌}
@@ -78,7 +79,7 @@ module _ {r : Record} {d : Buffers} {s : Sentence} (h : Holds r d s) where
   pub whole_room : {room : ℕ} → length (written partial s) ≤ room → length (written partial (shown_of r.columns 0 0 s)) ≤ room
   whole_room l = omega (arith, ap length whole_line)
 
-  pub whole_short : (room : ℕ) {k : ℕ} → k ≡ short_of room (length (written partial (shown_of r.columns 0 0 s))) → k ≡ short_of room (length (written partial s))
+  pub whole_short : (room : ℕ) {k : Option ℕ} → k ≡ short_of room (length (written partial (shown_of r.columns 0 0 s))) → k ≡ short_of room (length (written partial s))
   whole_short room q = q ∙ ap (λ (l : List ℕ). short_of room (length l)) whole_line
 
   pub whole_lined : {o₀ o : List ℕ} {a : ℕ} → Lined (written partial (shown_of r.columns 0 0 s)) o₀ o a → Lined (written partial s) o₀ o a

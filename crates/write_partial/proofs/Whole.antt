@@ -31,13 +31,20 @@ module _ {r : Record} {d : Buffers} (h : Sheet r d) where
   rows : (k : ℕ) → k ≤ r.n → Rows d.cell_starts_buf d.cell_lengths_buf d.tag_bytes_buf r.columns k
   rows k l = record { lies = λ i x. row_lies h i (omega arith) }
 
+  -- the first k characters lie in the buffers
+  abbrev pub Lies : ℕ → Type 0
+  Lies k = Spread d.char_pos_buf d.text_buf k × Rows d.cell_starts_buf d.cell_lengths_buf d.tag_bytes_buf r.columns k
+
+  lies : (k : ℕ) → k ≤ r.n → Lies k
+  lies k l = (spread k l, rows k l)
+
   -- what the characters from the i-th on ask, and those before the b-th
   abbrev pub RestAsked : ℕ → ℕ → Type 0
   RestAsked i last =
-      Spread d.char_pos_buf d.text_buf (last + 1) × Rows d.cell_starts_buf d.cell_lengths_buf d.tag_bytes_buf r.columns (last + 1) × (i ≤ last) × (last ≤ length d.boundaries_buf)
+      Lies (last + 1) × (i ≤ last) × (last ≤ length d.boundaries_buf)
 
   rest_asked : (i : ℕ) → i < r.n → RestAsked i (r.n - 1)
-  rest_asked i l = (spread (r.n - 1 + 1) (omega arith), rows (r.n - 1 + 1) (omega arith), omega arith, omega (arith, bounds h))
+  rest_asked i l = (lies (r.n - 1 + 1) (omega arith), omega arith, omega (arith, bounds h))
 
   -- ---- the line is written
   module _ (n b e : ℕ) (l : b ≤ e) (m : e ≤ r.n) (out : List ℕ) (room : length (written partial (shown_of n b e (spell r d))) ≤ length out) where
@@ -55,11 +62,11 @@ module _ {r : Record} {d : Buffers} (h : Sheet r d) where
       whole : Writing out 0 all out 0 (rest_in d r.columns n 0 (r.n - 1))
       whole = write_keep start (line_whole h n b e q)
 
-      pub whole_asks : Spread d.char_pos_buf d.text_buf (r.n - 1 + 1) × Rows d.cell_starts_buf d.cell_lengths_buf d.tag_bytes_buf r.columns (r.n - 1 + 1) × (0 ≤ r.n - 1)
+      pub whole_asks : Lies (r.n - 1 + 1) × (0 ≤ r.n - 1)
           × (r.n - 1 ≤ length d.boundaries_buf) × (0 + length (rest_in d r.columns n 0 (r.n - 1)) ≤ length out)
       whole_asks =
           let a = rest_asked 0 (omega (arith, bounds h)) in
-          (a.0, a.1, a.2, a.3, omega (arith, whole.ends, room))
+          (a.0, a.1, a.2, omega (arith, whole.ends, room))
 
       pub whole_done : {out' : List ℕ} {at : ℕ} → Wrote out 0 (rest_in d r.columns n 0 (r.n - 1)) out' at → Lined all out out' at
       whole_done c = done (write_item whole (sym (append-nil _)) c)
@@ -110,18 +117,18 @@ module _ {r : Record} {d : Buffers} (h : Sheet r d) where
             rest_left : Writing out 0 all out₂ at₂ (rest_in d r.columns n e (r.n - 1))
             rest_left = write_item before_range refl o
 
-            pub range_rest : Spread d.char_pos_buf d.text_buf (r.n - 1 + 1) × Rows d.cell_starts_buf d.cell_lengths_buf d.tag_bytes_buf r.columns (r.n - 1 + 1) × (e ≤ r.n - 1)
+            pub range_rest : Lies (r.n - 1 + 1) × (e ≤ r.n - 1)
                 × (r.n - 1 ≤ length d.boundaries_buf) × (at₂ + length (rest_in d r.columns n e (r.n - 1)) ≤ length out₂)
             range_rest =
                 let a = rest_asked e (omega arith) in
-                (a.0, a.1, a.2, a.3, write_fits rest_left (rest_in d r.columns n e (r.n - 1)) [] (sym (append-nil _)))
+                (a.0, a.1, a.2, write_fits rest_left (rest_in d r.columns n e (r.n - 1)) [] (sym (append-nil _)))
 
             pub range_done : {out₃ : List ℕ} {at₃ : ℕ} → Wrote out₂ at₂ (rest_in d r.columns n e (r.n - 1)) out₃ at₃ → Lined all out out₃ at₃
             range_done u = done (write_item rest_left (sym (append-nil _)) u)
 
-      pub before_asks : Spread d.char_pos_buf d.text_buf b × Rows d.cell_starts_buf d.cell_lengths_buf d.tag_bytes_buf r.columns b × (b ≤ length d.boundaries_buf + 1)
+      pub before_asks : Lies b × (b ≤ length d.boundaries_buf + 1)
           × (length (before_in d r.columns n b) ≤ length out)
-      before_asks = (spread b (omega arith), rows b (omega arith), omega (arith, bounds h), on (eqb e r.n) refl)
+      before_asks = (lies b (omega arith), omega (arith, bounds h), on (eqb e r.n) refl)
         where
           on : (t : Bool) → eqb e r.n ≡ t → length (before_in d r.columns n b) ≤ length out
           on true p = first_fits _ (to_end (eqb-true e r.n p))
@@ -147,12 +154,12 @@ module _ {r : Record} {d : Buffers} (h : Sheet r d) where
       unfolding long
       whole_is = ap length (line_whole h n b e q)
 
-      pub whole_measures : Spread d.char_pos_buf d.text_buf (r.n - 1 + 1) × Rows d.cell_starts_buf d.cell_lengths_buf d.tag_bytes_buf r.columns (r.n - 1 + 1)
+      pub whole_measures : Lies (r.n - 1 + 1)
           × Narrow d.cell_lengths_buf r.columns n 0 (r.n - 1 + 1) × (0 ≤ r.n - 1) × (r.n - 1 ≤ length d.boundaries_buf) × (length (rest_in d r.columns n 0 (r.n - 1)) < 2 ^ 32)
       whole_measures =
           let s = rest_asked 0 (omega (arith, bounds h)) in
           let f : Narrow d.cell_lengths_buf r.columns n 0 (r.n - 1 + 1) = record { few = λ i x y. omega (arith, a.enough, count_few h b e i (omega (arith, bounds h)) (none_in b e i (omega arith))) } in
-          (s.0, s.1, f, s.2, s.3, omega (arith, whole_is, few))
+          (s.0, f, s.1, s.2, omega (arith, whole_is, few))
 
       pub whole_long : {k : ℕ} → k ≡ length (rest_in d r.columns n 0 (r.n - 1)) → k ≡ length (written partial (shown_of n b e (spell r d)))
       unfolding long
@@ -197,20 +204,20 @@ module _ {r : Record} {d : Buffers} (h : Sheet r d) where
             let w = length-append (covered_in d b (e - b)) (rest_in d r.columns n e (r.n - 1)) in
             omega (arith, ap length (line_within h n b e (omega (arith, a.ordered)) (omega (arith, a.inside))), v, w, c)
 
-        pub rest_measures : Spread d.char_pos_buf d.text_buf (r.n - 1 + 1) × Rows d.cell_starts_buf d.cell_lengths_buf d.tag_bytes_buf r.columns (r.n - 1 + 1)
+        pub rest_measures : Lies (r.n - 1 + 1)
             × Narrow d.cell_lengths_buf r.columns n e (r.n - 1 + 1) × (e ≤ r.n - 1) × (r.n - 1 ≤ length d.boundaries_buf) × (length (rest_in d r.columns n e (r.n - 1)) < 2 ^ 32)
         rest_measures =
             let s = rest_asked e (omega (arith, a.inside)) in
-            (s.0, s.1, narrow_behind (r.n - 1) (omega (arith, bounds h)), s.2, s.3, omega (arith, within_is, few))
+            (s.0, narrow_behind (r.n - 1) (omega (arith, bounds h)), s.1, s.2, omega (arith, within_is, few))
 
         pub within_sum : {k t u : ℕ} → k ≡ length (before_in d r.columns n b) → t ≡ get_or d.char_pos_buf e 0 - get_or d.char_pos_buf b 0 → u ≡ length (rest_in d r.columns n e (r.n - 1))
             → (k + t + (e - b) + u ≡ length (written partial (shown_of n b e (spell r d)))) × (k + t + (e - b) + u ≤ 20000000)
         unfolding long
         within_sum p o u = (omega (arith, within_is, p, o, u), omega (arith, within_is, few, p, o, u))
 
-      pub before_measures : Spread d.char_pos_buf d.text_buf b × Rows d.cell_starts_buf d.cell_lengths_buf d.tag_bytes_buf r.columns b × Narrow d.cell_lengths_buf r.columns n 0 b
+      pub before_measures : Lies b × Narrow d.cell_lengths_buf r.columns n 0 b
           × (b ≤ length d.boundaries_buf + 1) × (length (before_in d r.columns n b) < 2 ^ 32)
-      before_measures = (spread b (omega (arith, a.ordered, a.inside)), rows b (omega (arith, a.ordered, a.inside)), narrow_before, omega (arith, bounds h, a.ordered, a.inside), on (eqb e r.n) refl)
+      before_measures = (lies b (omega (arith, a.ordered, a.inside)), narrow_before, omega (arith, bounds h, a.ordered, a.inside), on (eqb e r.n) refl)
         where
           on : (t : Bool) → eqb e r.n ≡ t → length (before_in d r.columns n b) < 2 ^ 32
           on true p = omega (arith, end_is (eqb-true e r.n p), few)

@@ -74,11 +74,8 @@ module _ {r : Record} {d : Buffers} {b e w i : ℕ} (t : Seeking r d b e w i) wh
     unfolding longest
     step = rw counted (rw (row_shown t.sheet 0 b e i l) at t.same)
 
-    pub seek_more : w < k → Seeking r d b e k (i + 1)
-    seek_more z = record { sheet = t.sheet; known = t.known; upto = omega arith; same = omega (arith, step) }
-
-    pub seek_less : k ≤ w → Seeking r d b e w (i + 1)
-    seek_less z = record { sheet = t.sheet; known = t.known; upto = omega arith; same = omega (arith, step) }
+    pub seek_next : Seeking r d b e (max w k) (i + 1)
+    seek_next = record { sheet = t.sheet; known = t.known; upto = omega arith; same = omega (arith, step) }
 
   pub seek_done : r.n ≤ i → w ≡ widest (hidden b e 0 (spell r d).cells)
   unfolding longest

@@ -3,10 +3,13 @@ use Rattle.std.specs.Prelude.{ℕ, zero, suc, ◌+◌, ◌-◌, ◌≤◌, ◌<�
 use Prim.Native.Char.{code as chr}
 use Rattle.laws.specs.If.{when◌then◌else◌}
 use Rattle.sentence.specs.Sentence.{Sentence}
-use Rattle.sentence.specs.Writing.{sign}
+use Rattle.sentence.specs.declared.Form.TheVariants.{Partial as partial}
+use Rattle.sentence.specs.Writing.{sign, written}
 use Rattle.sentence.specs.Withheld.{hidden, widest}
 use Rattle.sheet.specs.declared.Record.{Record}
+use Rattle.sheet.specs.declared.Sheet.{Sheet as Lent}
 use Rattle.sheet.specs.Layout.{Buffers, mark_of, spell}
+use Rattle.sheet.specs.Views.{spelled}
 use Rattle.write_items.specs.Items.{count_at, TextLies, RowLies, text_at, char_line}
 
 -- n columns, and no label that belongs to a character from b up to e
@@ -60,3 +63,42 @@ bare_of text ps n i = text_at ps text i (i + 1) ++ replicate n (chr "/")
 unfoldable pub slashes_of : List ℕ → List ℕ → ℕ → ℕ → ℕ → ℕ → ℕ
 slashes_of bs ls m n i zero = 0
 slashes_of bs ls m n i (suc k) = (when eqb (get_or bs i 0) 1 then n else count_at ls m i) + slashes_of bs ls m n (i + 1) k
+
+-- ---- the same of a sheet's buffers, whose rows have as many cells as its record says
+-- the text of its first n characters lies in its buffers, and their rows do too
+abbrev pub SpreadIn : Lent → ℕ → Type 0
+SpreadIn s n = Spread s.char_pos.now s.text.now n
+
+abbrev pub LieIn : Lent → ℕ → Type 0
+LieIn s n = SpreadIn s n × Rows s.cell_starts.now s.cell_lengths.now s.tag_bytes.now s.record.columns n
+
+-- its rows from b up to e list at most n tags
+abbrev pub NarrowIn : Lent → ℕ → ℕ → ℕ → Type 0
+NarrowIn s n b e = Narrow s.cell_lengths.now s.record.columns n b e
+
+-- its characters from b up to e with their tags and boundaries, before a word boundary with all n columns; their slashes; and their bare text
+abbrev pub stretch_in : ℕ → Lent → ℕ → ℕ → List ℕ
+stretch_in n s b e =
+    stretch_of s.text.now s.boundaries.now s.char_pos.now s.cell_starts.now s.cell_lengths.now s.tag_bytes.now s.record.columns n b (e - b)
+
+abbrev pub slashes_in : ℕ → Lent → ℕ → ℕ → ℕ
+slashes_in n s b e = slashes_of s.boundaries.now s.cell_lengths.now s.record.columns n b (e - b)
+
+abbrev pub covered_in : Lent → ℕ → ℕ → List ℕ
+covered_in s b e = covered_of s.text.now s.char_pos.now b (e - b)
+
+-- its first k characters, those from the i-th to the last, and the i-th with its n columns absent
+abbrev pub before_in : ℕ → Lent → ℕ → List ℕ
+before_in n s k =
+    before_of s.text.now s.boundaries.now s.char_pos.now s.cell_starts.now s.cell_lengths.now s.tag_bytes.now s.record.columns n k
+
+abbrev pub rest_in : ℕ → Lent → ℕ → ℕ → List ℕ
+rest_in n s i last =
+    rest_of s.text.now s.boundaries.now s.char_pos.now s.cell_starts.now s.cell_lengths.now s.tag_bytes.now s.record.columns n i last
+
+abbrev pub bare_in : ℕ → Lent → ℕ → List ℕ
+bare_in n s i = bare_of s.text.now s.char_pos.now n i
+
+-- the line of n columns that hides its characters from b up to e
+abbrev pub line_in : ℕ → Lent → ℕ → ℕ → List ℕ
+line_in n s b e = written partial (shown_of n b e (spelled s))

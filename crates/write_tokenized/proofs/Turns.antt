@@ -1,5 +1,6 @@
 -- The tokenized line of a sheet, token by token, and the loops that measure and write it. Assumes nothing.
 use Prim.Native.Nat.{ℕ, ◌+◌, ◌-◌, ◌^◌, ◌≤◌, ◌<◌}
+use mir.Val.{bool_byte}
 use mathlib.Core.Path.{◌≡◌, refl, sym, ap, ◌∙◌}
 use mathlib.Core.Bool.{Bool, true, false}
 use mathlib.Core.List.{List, [], ◌∷◌, ◌++◌, map}
@@ -94,6 +95,11 @@ module _ {r : Record} {d : Buffers} {out₀ out : List ℕ} {n p : ℕ} {some : 
   token_done x y = lined (omega (arith, t.writing.room)) (write_done t.writing (left_none t.sheet some p x y))
 
 -- ---- a loop that measures the line
+gap_long : (some : Bool) → length (gap some) ≡ bool_byte some
+unfolding gap
+gap_long true = refl
+gap_long false = refl
+
 pub record Summing (r : Record) (d : Buffers) (sum p : ℕ) (some : Bool) : Type 0 where
   pub sheet : Sheet r d
   pub bounded : Bounded r.n d.boundaries_buf
@@ -118,16 +124,15 @@ module _ {r : Record} {d : Buffers} {sum p : ℕ} {some : Bool} (t : Summing r d
     sum_asks = (omega arith, text_lies t.sheet b e (omega arith) f.within, row_lies t.sheet (e - 1) (omega arith), omega (arith, parts, t.few))
 
     -- the sums are small
-    module _ {g : ℕ} (x : g ≡ length (gap some)) where
-      pub sum_gap : sum + g ≤ 20000000
-      sum_gap = omega (arith, parts, t.few)
+    module _ {g u : ℕ} (x : g ≡ bool_byte some) (y : u ≡ length (token_in r d b e)) where
+      pub sum_part : g + u ≤ 20000000
+      sum_part = omega (arith, gap_long some, parts, t.few)
 
-      module _ {u : ℕ} (y : u ≡ length (token_in r d b e)) where
-        pub sum_few : sum + g + u ≤ 20000000
-        sum_few = omega (arith, parts, t.few)
+      pub sum_few : sum + (g + u) ≤ 20000000
+      sum_few = omega (arith, gap_long some, parts, t.few)
 
-        pub sum_next : Summing r d (sum + g + u) e true
-        sum_next = record { sheet = t.sheet; bounded = t.bounded; few = t.few; same = omega (arith, parts) }
+      pub sum_next : Summing r d (sum + (g + u)) e true
+      sum_next = record { sheet = t.sheet; bounded = t.bounded; few = t.few; same = omega (arith, gap_long some, parts) }
 
   pub sum_done : {a : Step} {q : ℕ} → a ≡ step_of (next_token_of (marks_in r.n d.boundaries_buf) r.n p) → a ≡ Done q → sum ≡ length (written tokenized (spell r d))
   sum_done x y = omega (arith, t.same, ap length (left_none t.sheet some p x y))

@@ -5,8 +5,8 @@ use Rattle.exports.proofs.ighdelmur_convert.Goals as goal
 pub refusal_code-requires : goal.refusal_code-requires
 refusal_code-requires c = search small_place
 
-pub returns-in-Wrote : goal.returns-in-Wrote
-returns-in-Wrote c = search code_wrote
+pub returns-in-Ok : goal.returns-in-Ok
+returns-in-Ok c = search code_wrote
 
-pub returns-in-Refused : goal.returns-in-Refused
-returns-in-Refused c = search code_refused
+pub returns-in-Err : goal.returns-in-Err
+returns-in-Err c = search code_refused

@@ -1,12 +1,7 @@
 -- `exports::nearest` meets its contract.
-use Rattle.laws.proofs.Tests.{tests}
-use Rattle.exports.specs.Exports.{nearest}
+use mathlib.Core.Path.{◌∙◌}
+use Rattle.exports.proofs.Places.{nearest_min}
 use Rattle.exports.proofs.nearest.Goals as goal
 
-pub returns-then-place-lt4294967295 : goal.returns-then-place-lt4294967295
-unfolding nearest
-returns-then-place-lt4294967295 c = search tests
-
 pub returns : goal.returns
-unfolding nearest
-returns c = search tests
+returns c = c.min.ensures ∙ nearest_min c.args.place

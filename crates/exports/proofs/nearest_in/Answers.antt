@@ -2,8 +2,8 @@
 use Rattle.exports.proofs.Told.{brought_length, brought_refusal}
 use Rattle.exports.proofs.nearest_in.Goals as goal
 
-pub returns-in-Is : goal.returns-in-Is
-returns-in-Is c = search brought_length
+pub returns-in-Ok : goal.returns-in-Ok
+returns-in-Ok c = search brought_length
 
-pub returns-in-Refused : goal.returns-in-Refused
-returns-in-Refused c = search brought_refusal
+pub returns-in-Err : goal.returns-in-Err
+returns-in-Err c = search brought_refusal

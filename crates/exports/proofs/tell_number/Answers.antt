@@ -1,13 +1,13 @@
 -- `exports::tell_number` meets its contract.
-use Rattle.exports.proofs.Places.{number_near}
+use Rattle.exports.proofs.Places.{near_err}
 use Rattle.exports.proofs.Told.{told_length, told_number}
 use Rattle.exports.proofs.tell_number.Goals as goal
 
 pub refusal_code-requires : goal.refusal_code-requires
-refusal_code-requires c = search number_near
+refusal_code-requires c = search near_err
 
-pub returns-in-Is : goal.returns-in-Is
-returns-in-Is c = search told_length
+pub returns-in-Ok : goal.returns-in-Ok
+returns-in-Ok c = search told_length
 
-pub returns-in-Refused : goal.returns-in-Refused
-returns-in-Refused c = search told_number
+pub returns-in-Err : goal.returns-in-Err
+returns-in-Err c = search told_number

@@ -1,27 +1,30 @@
 -- `lookups::boundary` meets its contract.
-use mathlib.Core.Path.{ap, ◌∙◌}
+use Rattle.std.specs.Prelude.{Ok}
+use mathlib.Core.Path.{ap}
 use borrow.Author.Tests.{le-leb, lt-leb}
 use native.Mathlib.Omega.{arith}
-use Rattle.sheet.specs.declared.Number.TheVariants.{Is, Refused}
-use Rattle.sheet.proofs.Look.{broken, outside, inside, checked, bounds}
+use Rattle.sheet.proofs.Look.{refuses_13, found, refuses_14, serves}
 use Rattle.lookups.specs.Answers.{boundary_at}
-use mathlib.Core.Bool.{not}
 use Rattle.lookups.proofs.boundary.Goals as goal
 
 pub returns-then-not-check : goal.returns-then-not-check
 unfolding boundary_at
-returns-then-not-check c = broken Refused _ _ _ _ _ c.check.ensures (ap not c.if-not-check.true)
+returns-then-not-check c = refuses_13 _ _ _ _ _ _ c.check.ensures c.if-not-check.true
 
 pub overflow_sub-r : goal.overflow_sub-r
-overflow_sub-r c = omega (arith, bounds (checked _ _ _ c.check.ensures (ap not c.if-not-check.false)))
+overflow_sub-r c = omega (arith, (found _ _ _ c.check.ensures c.if-not-check.false).limits)
 
 pub returns-then-i-r : goal.returns-then-i-r
 unfolding boundary_at
-returns-then-i-r k = ap Refused k.outside.ensures ∙ outside Refused _ _ _ _ _ k.check.ensures (ap not k.if-not-check.false) (rw (← (bounds (checked _ _ _ k.check.ensures (ap not k.if-not-check.false))).n_is) (le-leb _ _ k.if-i-r.true))
+returns-then-i-r c =
+    let f = found _ _ _ c.check.ensures c.if-not-check.false in
+    refuses_14 f _ _ _ c.outside.ensures (rw (← f.limits.n_is) (le-leb _ _ c.if-i-r.true))
 
-pub boundary-m-requires : goal.boundary-m-requires
-boundary-m-requires c = ((checked _ _ _ c.check.ensures (ap not c.if-not-check.false)), c.if-i-r.false)
+pub boundary-requires : goal.boundary-requires
+boundary-requires c = ((found _ _ _ c.check.ensures c.if-not-check.false).sheet, c.if-i-r.false)
 
 pub returns : goal.returns
 unfolding boundary_at
-returns c = inside Refused _ _ _ _ _ c.check.ensures (ap not c.if-not-check.false) (rw (← (bounds (checked _ _ _ c.check.ensures (ap not c.if-not-check.false))).n_is) (lt-leb _ _ c.if-i-r.false)) _ (ap Is c.boundary-m.ensures)
+returns c =
+    let f = found _ _ _ c.check.ensures c.if-not-check.false in
+    serves f _ _ _ (rw (← f.limits.n_is) (lt-leb _ _ c.if-i-r.false)) (ap Ok c.boundary.ensures)

@@ -1,23 +1,27 @@
 -- `lookups::tag` meets its contract.
-use mathlib.Core.Path.{ap, ◌∙◌}
-use Rattle.sheet.specs.declared.Slice.TheVariants.{Refused}
-use Rattle.sheet.proofs.Look.{broken, outside, inside, checked, bounds}
+use Rattle.sheet.proofs.Look.{refuses_13, found, refuses_14, serves}
 use Rattle.lookups.specs.Answers.{tag_at}
 use Rattle.lookups.proofs.Laws.{in_table}
-use mathlib.Core.Bool.{not}
 use Rattle.lookups.proofs.tag.Goals as goal
 
 pub returns-then-not-check : goal.returns-then-not-check
 unfolding tag_at
-returns-then-not-check c = broken Refused _ _ _ _ _ c.check.ensures (ap not c.if-not-check.true)
+returns-then-not-check c = refuses_13 _ _ _ _ _ _ c.check.ensures c.if-not-check.true
 
 pub returns-then-row-r : goal.returns-then-row-r
 unfolding tag_at
-returns-then-row-r k = ap Refused k.outside.ensures ∙ outside Refused _ _ _ _ _ k.check.ensures (ap not k.if-not-check.false) (rw (← (bounds (checked _ _ _ k.check.ensures (ap not k.if-not-check.false))).n_is, ← (bounds (checked _ _ _ k.check.ensures (ap not k.if-not-check.false))).columns_is) k.if-row-r.true)
+returns-then-row-r c =
+    let f = found _ _ _ c.check.ensures c.if-not-check.false in
+    refuses_14 f _ _ _ c.outside.ensures (rw (← f.limits.n_is, ← f.limits.columns_is) c.if-row-r.true)
 
 pub tag-requires : goal.tag-requires
-tag-requires c = let t = in_table c.args.r.n c.args.row c.args.r.columns c.args.column c.if-row-r.false in (checked _ _ _ c.check.ensures (ap not c.if-not-check.false), t.0, t.1)
+tag-requires c =
+    let r = c.args.sheet.now.record in
+    let t = in_table r.n c.args.row r.columns c.args.column c.if-row-r.false in
+    ((found _ _ _ c.check.ensures c.if-not-check.false).sheet, t.0, t.1)
 
 pub returns : goal.returns
 unfolding tag_at
-returns c = inside Refused _ _ _ _ _ c.check.ensures (ap not c.if-not-check.false) (rw (← (bounds (checked _ _ _ c.check.ensures (ap not c.if-not-check.false))).n_is, ← (bounds (checked _ _ _ c.check.ensures (ap not c.if-not-check.false))).columns_is) c.if-row-r.false) _ c.tag.ensures
+returns c =
+    let f = found _ _ _ c.check.ensures c.if-not-check.false in
+    serves f _ _ _ (rw (← f.limits.n_is, ← f.limits.columns_is) c.if-row-r.false) c.tag.ensures

@@ -2,8 +2,8 @@
 use Rattle.read_scan.proofs.Scanning.{told_whole, told_stop}
 use Rattle.read_scan.proofs.finished.Goals as goal
 
-pub returns-in-Whole : goal.returns-in-Whole
-returns-in-Whole c = search told_whole
+pub returns-in-Ok : goal.returns-in-Ok
+returns-in-Ok c = search told_whole
 
-pub returns-in-Refuse : goal.returns-in-Refuse
-returns-in-Refuse c = search told_stop
+pub returns-in-Err : goal.returns-in-Err
+returns-in-Err c = search told_stop

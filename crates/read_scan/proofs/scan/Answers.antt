@@ -5,21 +5,21 @@ use native.Mathlib.Omega.{arith}
 use Rattle.read_scan.proofs.scan.Goals as goal
 use Rattle.read_scan.proofs.scan.Goals.{In-Char}
 
-pub returns-then-line-gt4096 : goal.returns-then-line-gt4096
-returns-then-line-gt4096 c = search scan_long
+pub returns-then-line-gt-LONGEST : goal.returns-then-line-gt-LONGEST
+returns-then-line-gt-LONGEST c = search scan_long
 
 pub loop-value-init : goal.loop-value-init
 loop-value-init c = search scan_start
 
-pub returns-then-stepped-gt0 : goal.returns-then-stepped-gt0
-returns-then-stepped-gt0 c = search scan_stop
+pub returns-in-Err : goal.returns-in-Err
+returns-in-Err c = scan_stop c.loop-value.invariant c.decode.ensures c.in-Char.is _ _ c.step.ensures c.in-Err.is c.stopped.ensures
 
 -- the character that stands where the loop is
 stood : (c : In-Char) → Span c.args.line.now c.loop-value.at c.in-Char.len
 stood c = search stands
 
-pub tally-counts-requires : goal.tally-counts-requires
-tally-counts-requires c = (search scan_small, (stood (goal.at.tally-counts-requires c).In-Char).few)
+pub tally-requires : goal.tally-requires
+tally-requires c = (search scan_small, (stood (goal.at.tally-requires c).In-Char).few)
 
 pub overflow_add-at : goal.overflow_add-at
 overflow_add-at c = omega (arith, stood (goal.at.overflow_add-at c).In-Char)
@@ -28,7 +28,7 @@ pub loop-value-smaller : goal.loop-value-smaller
 loop-value-smaller c = omega (arith, stood (goal.at.loop-value-smaller c).In-Char)
 
 pub loop-value-preserved : goal.loop-value-preserved
-loop-value-preserved c = search scan_go
+loop-value-preserved c = scan_go c.loop-value.invariant c.decode.ensures c.in-Char.is _ _ c.step.ensures c.in-Ok.is c.tally.ensures
 
 pub returns-in-Bad : goal.returns-in-Bad
 returns-in-Bad c = search scan_bad

@@ -3,7 +3,7 @@ ghost use Rattle.std.specs.Prelude.{◌+◌, ◌≤◌, [], ◌∷◌, ◌++◌,
 ghost use Rattle.respelling.specs.Puts.{Puts};
 ghost use Rattle.respelling.specs.Decimal.{decimal};
 
-// Puts the digits of a number into a slice behind a place, and answers where they end.
+// Puts the digits of a number into a slice behind a place, and answers where they end. Each is stored where it stays: a formatter's would be copied.
 fn put_decimal(n: usize, out: &mut [u8], at: usize) -> usize
     requires { at + length (decimal n) ≤ length out.old }
     ensures { Puts (decimal n) out.old at result out.new }

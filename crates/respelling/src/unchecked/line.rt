@@ -7,23 +7,18 @@ ghost use Rattle.respelling.specs.Puts.{Puts, Into};
 ghost use Rattle.respelling.specs.Respell.{printed, answer};
 
 use crate::unchecked::decimal::put_number;
-use convert_buffers::Converted;
 use sentence::{NO_FORM, Refusal};
 
-// The number of a letter's form.
+// The number of a letter's form, and 3 for none: the conversion takes numbers, and refuses those of no form in its own order.
 fn form(b: u8) -> u32
     ensures { result ≡ letter b }
 {
-    if b == b'R' {
-        return 0;
+    match b {
+        b'R' => 0,
+        b'T' => 1,
+        b'P' => 2,
+        _ => 3,
     }
-    if b == b'T' {
-        return 1;
-    }
-    if b == b'P' {
-        return 2;
-    }
-    3
 }
 
 // Puts a printed refusal into a slice behind a place, and answers where it ends.
@@ -33,12 +28,18 @@ fn put_refusal(r: Refusal, out: &mut [u8], at: usize) -> usize
     ensures upper_bound { result ≤ at + 43 }
 {
     out[at] = b'!';
-    let a = put_number(r.number as usize, b' ', out, at + 1);
+    let a = put_number(usize::from(r.reason.number()), b' ', out, at + 1);
     put_number(r.place, b'\n', out, a)
 }
 
 // Converts a sentence line into the 8,192 bytes of a slice behind a place.
-fn convert_into(reader: u32, writer: u32, line: &[u8], out: &mut [u8], start: usize) -> Converted
+fn convert_into(
+    reader: u32,
+    writer: u32,
+    line: &[u8],
+    out: &mut [u8],
+    start: usize,
+) -> Result<usize, Refusal>
     requires { start + 8192 ≤ length out.old }
     ensures { Into (conversion reader writer line.now 8192 0) out.old start result out.new }
 {
@@ -55,12 +56,12 @@ fn put_conversion(reader: u32, writer: u32, line: &[u8], out: &mut [u8], at: usi
     out[at] = b'=';
     let start = at + 1;
     match convert_into(reader, writer, line, out, start) {
-        Converted::Wrote(n) => {
+        Ok(n) => {
             let e = start + n;
             out[e] = b'\n';
             e + 1
         }
-        Converted::Refused(r) => put_refusal(r, out, at),
+        Err(r) => put_refusal(r, out, at),
     }
 }
 

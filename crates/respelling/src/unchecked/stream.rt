@@ -10,39 +10,31 @@ use crate::unchecked::line::put_answer;
 fn line_len(s: &[u8]) -> usize
     ensures { result ≡ line_len s.now }
 {
-    let mut i = 0;
-    while i < s.len() {
-        if s[i] == b'\n' {
-            return i;
-        }
-        i += 1;
-    }
-    i
+    s.iter().position(|b| *b == b'\n').unwrap_or(s.len())
 }
 
 // Answers the first line of a piece, where its LF is there or the input ends with it, and the output has room for the longest answer.
-fn step(s: &[u8], last: bool, out: &mut [u8], at: usize) -> Turn
+fn step(s: &[u8], last: bool, out: &mut [u8], at: usize) -> Option<Turn>
     requires { at ≤ length out.old }
     ensures { Stepped (Stream-step last (length out.old - at) s.now) out.old at result out.new }
 {
     if out.len() - at < 8194 {
-        return Turn { used: 0, wrote: at };
+        return None;
     }
     let n = line_len(s);
     if n < s.len() {
-        let used = n + 1;
-        return Turn {
-            used,
+        return Some(Turn {
+            used: n + 1,
             wrote: put_answer(&s[..n], out, at),
-        };
+        });
     }
     if last & (0 < s.len()) {
-        return Turn {
+        return Some(Turn {
             used: s.len(),
             wrote: put_answer(s, out, at),
-        };
+        });
     }
-    Turn { used: 0, wrote: at }
+    None
 }
 
 // Answers the lines of a piece, as far as they are whole and the output has room for the longest answer. `last` says that no piece follows. What is
@@ -52,12 +44,9 @@ pub fn respell(input: &[u8], last: bool, out: &mut [u8]) -> Turn
 {
     let mut used = 0;
     let mut wrote = 0;
-    loop {
-        let t = step(&input[used..], last, out, wrote);
+    while let Some(t) = step(&input[used..], last, out, wrote) {
         used += t.used;
         wrote = t.wrote;
-        if t.used == 0 {
-            return Turn { used, wrote };
-        }
     }
+    Turn { used, wrote }
 }

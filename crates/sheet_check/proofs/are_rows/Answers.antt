@@ -15,7 +15,7 @@ pub loop-i-preserved : goal.loop-i-preserved
 loop-i-preserved c = search rows_go
 
 pub each_cell-requires : goal.each_cell-requires
-each_cell-requires c = search rows_rest
+each_cell-requires c = rw c.from.ensures (search rows_rest)
 
 pub returns : goal.returns
-returns c = search rows_done
+returns c = let rest = rw c.from.ensures at c.each_cell.ensures in search rows_done

@@ -2,7 +2,7 @@
 use mathlib.Core.Path.{ap}
 use mathlib.Core.Bool.{not}
 use native.Mathlib.Omega.{arith}
-use Rattle.sheet_check.proofs.Steps.{Reach, reach, read_start, read_few, read_fits, read_no, read_go, read_bad, read_end, read_done}
+use Rattle.sheet_check.proofs.Steps.{Reach, reach, read_start, read_few, read_fits, read_no, read_go, read_stop, read_done}
 use Rattle.sheet_check.proofs.is_placed.Goals as goal
 use Rattle.sheet_check.proofs.is_placed.Goals.{In-Char}
 
@@ -32,16 +32,7 @@ pub loop-at-preserved : goal.loop-at-preserved
 loop-at-preserved c = read_go _ _ _ _ _ _ c.requires c.loop-at.invariant _ _ _ c.decode.ensures c.in-Char.is _ _ c.if-i-types.false c.get_type-kind.ensures c.is_char.ensures (ap not c.if-not-is_char.false)
 
 pub returns-in-Bad : goal.returns-in-Bad
-returns-in-Bad c = search read_bad
-
-pub returns-in-End : goal.returns-in-End
-returns-in-End c = search read_end
-
-pub overflow_cast-result : goal.overflow_cast-result
-overflow_cast-result c = omega (arith, c.type_inv.char_pos c.loop-at.i)
-
-pub overflow_cast-result-2 : goal.overflow_cast-result-2
-overflow_cast-result-2 c = omega (arith, c.type_inv.byte_pos c.loop-at.at)
+returns-in-Bad c = read_stop _ _ _ _ _ _ c.requires c.loop-at.invariant _ c.loop-at-test.true c.decode.ensures c.in-Bad.is
 
 pub returns : goal.returns
-returns c = search read_done
+returns c = rw (c.from.ensures, c.from-2.ensures) (search read_done)

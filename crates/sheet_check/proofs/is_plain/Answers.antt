@@ -1,7 +1,7 @@
 -- `sheet_check::is_plain` meets its contract.
 use mathlib.Core.Path.{refl}
 use native.Mathlib.Omega.{arith}
-use Rattle.sheet_check.proofs.Steps.{plainly_go, plainly_nul, plainly_bad, plainly_end, plainly_done, Reach, reach}
+use Rattle.sheet_check.proofs.Steps.{plainly_go, plainly_nul, plainly_stop, plainly_done, Reach, reach}
 use Rattle.sheet_check.proofs.is_plain.Goals as goal
 use Rattle.sheet_check.proofs.is_plain.Goals.{In-Char}
 
@@ -24,10 +24,7 @@ pub loop-at-preserved : goal.loop-at-preserved
 loop-at-preserved c = search plainly_go
 
 pub returns-in-Bad : goal.returns-in-Bad
-returns-in-Bad c = search plainly_bad
-
-pub returns-in-End : goal.returns-in-End
-returns-in-End c = search plainly_end
+returns-in-Bad c = plainly_stop _ _ c.loop-at.invariant _ c.loop-at-test.true c.decode.ensures c.in-Bad.is
 
 pub returns : goal.returns
 returns c = search plainly_done

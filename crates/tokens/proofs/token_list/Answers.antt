@@ -1,42 +1,47 @@
 -- What is known of the records to fill makes each turn fill one, and the list the one that is promised.
-use mathlib.Core.Path.{◌∙◌, ap}
-use Rattle.std.proofs.Common.{arith}
-use Rattle.sheet.specs.Layout.{buffers}
-use Rattle.tokens.specs.Steps.{filled_of}
-use Rattle.tokens.proofs.Cursor.{Following}
-use Rattle.tokens.proofs.Lists.{partway_start, partway_next, serves_next, Fills, fills, listed}
+use mathlib.Core.Path.{◌≡◌, sym, ◌∙◌}
+use native.Mathlib.Omega.{arith}
+use lib.ListN.{length-take}
+use Rattle.std.proofs.lemmas.Result.{err_from_is_err_and}
+use Rattle.sheet.specs.Views.{held}
+use Rattle.tokens.proofs.Cursor.{following, counted_done}
+use Rattle.tokens.proofs.Lists.{partway_start, partway_next, Fills, refused, fills, listed}
 use Rattle.tokens.proofs.token_list.Goals as goal
-use Rattle.tokens.proofs.token_list.Goals.{After-filled-count, After-token_from-t}
+use Rattle.tokens.proofs.token_list.Goals.{In_ok-count, in-Serves, in_default}
 
-known : (c : After-filled-count) → let a = c.args in
-    Fills a.r (buffers a.text.now a.types.now a.boundaries.now a.char_pos.now a.byte_pos.now a.cell_starts.now a.cell_lengths.now a.tag_bytes.now) a.list.now c.filled-count.result
-known c = rw (c.filled-count.ensures, c.needed-answer.ensures) (fills c.args.r _ c.args.list.now)
+pub returns-in_err-count : goal.returns-in_err-count
+returns-in_err-count c =
+    let p = err_from_is_err_and c.from_residual.result c.from_residual.ensures.1 in
+    rw (p.1, p.2) (refused _ _ _ _ (sym c.in_err-count.was ∙ c.needed.ensures))
 
-follows : (c : After-token_from-t) → Following c.args.r.n c.args.boundaries.now c.loop-i.p c.token_from-t.result
-follows c =
-    let k = known (goal.at.bounds-list-i c).After-filled-count in
-    let l = k.all (omega arith) in
-    rw c.token_from-t.ensures (serves_next (k.sheet (omega arith)) c.loop-i.invariant.0.counted (omega arith))
+known : (c : In_ok-count) → Fills c.args.sheet.now.record (held c.args.sheet.now) c.args.list.now c.in_ok-count.count
+known c = fills _ _ _ _ (sym c.in_ok-count.was ∙ c.needed.ensures)
 
-pub loop-i-init : goal.loop-i-init
-loop-i-init c = (partway_start _ _ _, omega arith)
+pub slice_bounds-place-items-end : goal.slice_bounds-place-items-end
+slice_bounds-place-items-end c = omega (arith, known (goal.at.slice_bounds-place-items-end c).In_ok-count)
 
-pub token_from-t-requires : goal.token_from-t-requires
-token_from-t-requires c = (known (goal.at.token_from-t-requires c).After-filled-count).sheet (omega arith)
+pub slice_bounds-place-items-end-2 : goal.slice_bounds-place-items-end-2
+slice_bounds-place-items-end-2 c = let k = known (goal.at.slice_bounds-place-items-end-2 c).In_ok-count in sym (length-take _ _ ∙ omega arith)
 
-pub bounds-list-i : goal.bounds-list-i
-bounds-list-i c = omega (arith, (known (goal.at.bounds-list-i c).After-filled-count).fits)
+pub loop-place-init : goal.loop-place-init
+loop-place-init c = partway_start _ _ _
 
-pub loop-i-preserved : goal.loop-i-preserved
-loop-i-preserved c = (partway_next c.loop-i.invariant.0 (follows c), omega arith)
+pub next_token-requires : goal.next_token-requires
+next_token-requires c = (known (goal.at.next_token-requires c).In_ok-count).sheet
+
+pub loop-place-preserved : goal.loop-place-preserved
+loop-place-preserved c =
+    let k = known (goal.at.loop-place-preserved c).In_ok-count in
+    let i = c.loop-place.invariant in
+    elim c.match-next_token.branch [
+      | in-Serves w ↦ rw (w.p-is, w.place-items-is, w.from-p.ensures) (partway_next i (following _ k.sheet c.next_token.ensures w.in-Serves.is))
+      | in_default w ↦
+          let e = counted_done i.counted k.sheet c.next_token.ensures w.in_default.is in
+          absurd (omega (arith, k.all, k.fits, length-take c.in_ok-count.count c.args.list.now))
+    ]
 
 pub returns : goal.returns
 returns c =
-    let e = listed c.args.r _ c.args.list.now c.loop-i.i c.loop-i.p c.loop-i.list c.loop-i.invariant.0 (omega arith ∙ c.filled-count.ensures ∙ ap filled_of c.needed-answer.ensures) in
-    rw c.needed-answer.ensures e
-
-pub offset_bounds-list-i : goal.offset_bounds-list-i
-offset_bounds-list-i c =
-    let k = known (goal.at.offset_bounds-list-i c).After-filled-count in
-    let b = k.sheet (omega arith) in
-    omega (arith, b, c.loop-i.invariant.0.counted)
+    let k = known (goal.at.returns c).In_ok-count in
+    let e : c.loop-place.place-index ≡ c.in_ok-count.count = omega (arith, k.fits, length-take c.in_ok-count.count c.args.list.now) in
+    listed _ _ _ _ (sym c.in_ok-count.was ∙ c.needed.ensures) _ _ (rw e at c.loop-place.invariant)

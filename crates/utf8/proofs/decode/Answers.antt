@@ -18,7 +18,7 @@ pub returns-then-s-at : goal.returns-then-s-at
 returns-then-s-at c = sym (decode_out _ _ c.if-s-at.true)
 
 pub returns-then-a-le127 : goal.returns-then-a-le127
-returns-then-a-le127 c = search ascii_at
+returns-then-a-le127 c = rw c.from.ensures (search ascii_at)
 
 pub bounds-s-at-then-is_within-at : goal.bounds-s-at-then-is_within-at
 bounds-s-at-then-is_within-at c = omega (arith, is-ahead (goal.at.bounds-s-at-then-is_within-at c).Then-is_within-at)
@@ -26,14 +26,7 @@ bounds-s-at-then-is_within-at c = omega (arith, is-ahead (goal.at.bounds-s-at-th
 pub bounds-s-at-then-is_within-at-2 : goal.bounds-s-at-then-is_within-at-2
 bounds-s-at-then-is_within-at-2 c = omega (arith, is-ahead (goal.at.bounds-s-at-then-is_within-at-2 c).Then-is_within-at)
 
-pub overflow_cast-result-then-is_tail : goal.overflow_cast-result-then-is_tail
-overflow_cast-result-then-is_tail c = omega (arith, is-ahead (goal.at.overflow_cast-result-then-is_tail c).Then-is_within-at)
-
-pub overflow_cast-result-then-is_tail-2 : goal.overflow_cast-result-then-is_tail-2
-overflow_cast-result-then-is_tail-2 c = omega (arith, are-tails (goal.at.overflow_cast-result-then-is_tail-2 c).Then-is_tail)
-
-pub overflow_cast-result-then-is_tail-3 : goal.overflow_cast-result-then-is_tail-3
-overflow_cast-result-then-is_tail-3 c = omega (arith, are-tails (goal.at.overflow_cast-result-then-is_tail-3 c).Then-is_tail)
-
 pub returns-then-is_tail : goal.returns-then-is_tail
-returns-then-is_tail c = three_at _ _ (is-ahead (goal.at.returns-then-is_tail c).Then-is_within-at) (are-tails (goal.at.returns-then-is_tail c).Then-is_tail)
+returns-then-is_tail c =
+    rw (c.behind-then-is_tail.ensures, c.behind.ensures, c.from-then-is_tail.ensures)
+    (three_at _ _ (is-ahead (goal.at.returns-then-is_tail c).Then-is_within-at) (are-tails (goal.at.returns-then-is_tail c).Then-is_tail))

@@ -1,7 +1,6 @@
 -- `utf8::valid_up_to` meets its contract.
 use native.Mathlib.Omega.{arith}
-use Rattle.utf8.proofs.Laws.{Sized, len_met, decode_out, passed_char, passed_bad, passed_end}
-use Rattle.laws.proofs.Tests.{met}
+use Rattle.utf8.proofs.Laws.{Sized, len_met, decode_out, passed_char, passed_stop, passed_end}
 use Rattle.utf8.proofs.valid_up_to.Goals as goal
 use Rattle.utf8.proofs.valid_up_to.Goals.{In-Char}
 
@@ -21,10 +20,7 @@ pub loop-at-preserved : goal.loop-at-preserved
 loop-at-preserved c = search passed_char
 
 pub returns-in-Bad : goal.returns-in-Bad
-returns-in-Bad c = search passed_bad
-
-pub returns-in-End : goal.returns-in-End
-returns-in-End c = search (passed_end, met)
+returns-in-Bad c = passed_stop _ _ _ c.longer.ensures c.in-Bad.is c.loop-at.invariant
 
 pub returns : goal.returns
 returns c = search (passed_end, decode_out)

@@ -1,23 +1,24 @@
 -- `convert_buffers::unchecked::between` meets its contract: a line is refused, or its cells are too many, or it is short, middle or long.
-use Rattle.convert_buffers.proofs.Passed.{scanned_few, scanned_short, few_bytes, few_cells, passed_full, passed_refused}
+use Rattle.std.specs.Prelude.{Err}
+use Prim.Native.Nat.{◌≤◌, ◌<◌}
+use native.Mathlib.Omega.{arith}
+use mathlib.Core.Path.{◌≡◌}
 use lib.ListN.{length}
-use borrow.Author.Rules.{rules}
+use Rattle.convert_buffers.proofs.Passed.{scanned_few, scanned_short, passed_full, passed_refused}
 use Rattle.convert_buffers.proofs.unchecked.between.Goals as goal
 
+pub returns-in_err-r : goal.returns-in_err-r
+returns-in_err-r c =
+    let gone : c.from_residual.result ≡ Err c.in_err-r.field-0.0 = grind arith in
+    rw gone (passed_refused _ _ c.scan.ensures _ _ c.in_err-r.was)
+
 pub returns-then-r-gt2048 : goal.returns-then-r-gt2048
-returns-then-r-gt2048 c = search passed_full
+returns-then-r-gt2048 c = passed_full _ _ c.scan.ensures _ _ c.in_ok-r.was c.if-r-gt2048.true
 
-pub short-requires : goal.short-requires
-short-requires c = (search rules, search scanned_few, search few_bytes, search few_cells)
-
-pub middle-requires : goal.middle-requires
-middle-requires c =
-    let n = length c.args.line.now in
-    let m = c.in-Sentence.r.cells in
-    (search rules, search scanned_few, few_bytes n m 512 c.if-line-r-2.true, few_cells n m 512 c.if-line-r-2.true)
-
-pub long-requires : goal.long-requires
-long-requires c = (search rules, search scanned_few, search scanned_short)
-
-pub returns-in-Refused : goal.returns-in-Refused
-returns-in-Refused c = search passed_refused
+pub sized-requires-2 : goal.sized-requires-2
+sized-requires-2 c =
+    let l : length c.args.line.now ≤ 4096 = scanned_short _ _ c.scan.ensures c.in_ok-r.was in
+    let n : length c.args.line.now < 4097 = omega arith in
+    let a : 4097 ≤ 4097 = omega arith in
+    let b : 2048 ≤ 2048 = omega arith in
+    (c.requires, scanned_few _ _ c.scan.ensures c.in_ok-r.was c.if-r-gt2048.false, n, a, c.if-r-gt2048.false, b)

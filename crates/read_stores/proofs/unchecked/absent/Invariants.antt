@@ -1,10 +1,6 @@
 -- `read_stores::unchecked::absent` meets its contract.
-use Prim.Native.Nat.{◌-◌}
 use Rattle.read_stores.proofs.Copies.{Absenting}
 use Rattle.read_stores.proofs.unchecked.absent.Given as goal
 
 abbrev pub invariant-loop-i : goal.invariant-loop-i
 invariant-loop-i l = Absenting l.initial.cell_starts l.initial.cell_lengths l.cell_starts l.cell_lengths l.start l.from l.to l.i
-
-abbrev pub decreases-loop-i : goal.decreases-loop-i
-decreases-loop-i l = l.to - l.i

@@ -8,8 +8,8 @@ bounds-cell_starts-at c = search cell_fits
 pub bounds-cell_lengths-at : goal.bounds-cell_lengths-at
 bounds-cell_lengths-at c = search cell_fits
 
-pub returns-then-k : goal.returns-then-k
-returns-then-k c = (search next_open, search cell_open, search cell_open)
+pub returns-then-counts : goal.returns-then-counts
+returns-then-counts c = (search next_open, search cell_open, search cell_open)
 
 pub returns : goal.returns
 returns c = (search next_closed, search kept_none, search kept_none)

@@ -1,7 +1,7 @@
 -- What the ranges from the i-th on say of a code point is what all of them say.
 use mathlib.Core.Path.{◌≡◌}
 use mathlib.Core.List.{List}
-use Prim.Native.Nat.{ℕ, ◌≤◌, ◌-◌}
+use Prim.Native.Nat.{ℕ, ◌≤◌}
 use lib.ListN.{length, drop}
 use Rattle.types.specs.TypeOf.{find, type_of}
 use Rattle.types.specs.declared.ranges.Row.{Row}
@@ -13,8 +13,5 @@ pub record Scanning (rs : List Row) (c i : ℕ) : Type 0 where
   pub long : length rs ≡ 18
   pub same : find (drop i rs) c ≡ type_of c
 
-abbrev pub invariant-loop-i : goal.invariant-loop-i
-invariant-loop-i l = Scanning l.rows l.c l.i
-
-abbrev pub decreases-loop-i : goal.decreases-loop-i
-decreases-loop-i l = 18 - l.i
+abbrev pub invariant-loop-first : goal.invariant-loop-first
+invariant-loop-first l = Scanning l.first-items l.c l.first-index

@@ -23,7 +23,7 @@ pub bounds-s-at : goal.bounds-s-at
 bounds-s-at c = search lead_within
 
 pub returns-then-a-le127 : goal.returns-then-a-le127
-returns-then-a-le127 c = (first (goal.at.returns-then-a-le127 c).Then-a-le127).is
+returns-then-a-le127 c = rw c.from.ensures (first (goal.at.returns-then-a-le127 c).Then-a-le127).is
 
 pub overflow_add-at : goal.overflow_add-at
 overflow_add-at c = omega (arith, second (goal.at.overflow_add-at c).Then-a-le223)
@@ -32,7 +32,7 @@ pub bounds-s-at-then-a-le223 : goal.bounds-s-at-then-a-le223
 bounds-s-at-then-a-le223 c = omega (arith, second (goal.at.bounds-s-at-then-a-le223 c).Then-a-le223)
 
 pub returns-then-a-le223 : goal.returns-then-a-le223
-returns-then-a-le223 c = cc (second (goal.at.returns-then-a-le223 c).Then-a-le223).is
+returns-then-a-le223 c = rw (c.behind.ensures, c.from-then-a-le223.ensures) (second (goal.at.returns-then-a-le223 c).Then-a-le223).is
 
 pub overflow_add-at-then-a-le239 : goal.overflow_add-at-then-a-le239
 overflow_add-at-then-a-le239 c = omega (arith, third (goal.at.overflow_add-at-then-a-le239 c).Then-a-le239)
@@ -47,10 +47,9 @@ pub bounds-s-at-then-a-le239-2 : goal.bounds-s-at-then-a-le239-2
 bounds-s-at-then-a-le239-2 c = omega (arith, third (goal.at.bounds-s-at-then-a-le239-2 c).Then-a-le239)
 
 pub returns-then-a-le239 : goal.returns-then-a-le239
-returns-then-a-le239 c = cc (third (goal.at.returns-then-a-le239 c).Then-a-le239).is
-
-pub overflow_cast-a-2 : goal.overflow_cast-a-2
-overflow_cast-a-2 c = omega (arith, c.type_inv.s c.args.at)
+returns-then-a-le239 c =
+    rw (c.behind-then-a-le239-2.ensures, c.behind-then-a-le239.ensures, c.from-then-a-le239.ensures)
+    (third (goal.at.returns-then-a-le239 c).Then-a-le239).is
 
 pub overflow_add-at-2 : goal.overflow_add-at-2
 overflow_add-at-2 c = omega (arith, fourth (goal.at.overflow_add-at-2 c).Else-a-le239)
@@ -71,4 +70,4 @@ pub bounds-s-at-4 : goal.bounds-s-at-4
 bounds-s-at-4 c = omega (arith, fourth (goal.at.bounds-s-at-4 c).Else-a-le239)
 
 pub returns : goal.returns
-returns c = cc (fourth (goal.at.returns c).Else-a-le239).is
+returns c = rw (c.behind-4.ensures, c.behind-3.ensures, c.behind-2.ensures, c.from-2.ensures) (fourth (goal.at.returns c).Else-a-le239).is

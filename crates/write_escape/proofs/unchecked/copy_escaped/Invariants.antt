@@ -1,15 +1,8 @@
--- `write_escape::unchecked::copy_escaped` meets its contract. The invariant: what is left to write is the slice from i on, escaped.
-use Prim.Native.Nat.{◌-◌, ◌≤◌}
-use lib.ListN.{take, drop}
+-- `write_escape::unchecked::copy_escaped` meets its contract. The invariant: what is left to write is the slice from there on, escaped.
+use lib.ListN.{drop}
 use Rattle.sentence.specs.Writing.{escape}
-use Rattle.write_escape.specs.Escape.{in_form}
 use Rattle.write_escape.specs.Wrote.{Writing}
 use Rattle.write_escape.proofs.unchecked.copy_escaped.Given as goal
 
-abbrev pub invariant-loop-i : goal.invariant-loop-i
-invariant-loop-i l =
-    let part = escape (in_form l.in_partial) (drop l.from (take l.to l.src)) in
-    (l.i ≤ l.to) × Writing l.initial.out l.at part l.out l.n (escape (in_form l.in_partial) (drop l.i (take l.to l.src)))
-
-abbrev pub decreases-loop-i : goal.decreases-loop-i
-decreases-loop-i l = l.to - l.i
+abbrev pub invariant-loop-b : goal.invariant-loop-b
+invariant-loop-b l = Writing l.initial.out l.at (escape l.form l.src) l.out l.n (escape l.form (drop l.b-index l.src))

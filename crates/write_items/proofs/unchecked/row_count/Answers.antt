@@ -1,24 +1,21 @@
 -- `write_items::unchecked::row_count` meets its contract. The invariant: the last listed cell is among the first n.
-use Rattle.write_items.proofs.Cells.{count_fits, count_empty, count_none, looking}
+use Rattle.write_items.proofs.Cells.{count_empty, count_none, looking}
 use Rattle.write_items.proofs.unchecked.row_count.Goals as goal
 
 pub returns-then-stride-eq0 : goal.returns-then-stride-eq0
 returns-then-stride-eq0 c = search count_empty
 
-pub overflow_mul-k : goal.overflow_mul-k
-overflow_mul-k c = search count_fits
+pub returns-then-sheet-last-gt0 : goal.returns-then-sheet-last-gt0
+returns-then-sheet-last-gt0 c = search looking
 
-pub returns-then-cell_lengths-last-gt0 : goal.returns-then-cell_lengths-last-gt0
-returns-then-cell_lengths-last-gt0 c = search looking
-
-pub returns-then-cell_starts-k : goal.returns-then-cell_starts-k
-returns-then-cell_starts-k c = search count_none
+pub returns-then-sheet-k : goal.returns-then-sheet-k
+returns-then-sheet-k c = search count_none
 
 pub loop-n-init : goal.loop-n-init
 loop-n-init c = search looking
 
-pub returns-then-cell_lengths-k-gt0 : goal.returns-then-cell_lengths-k-gt0
-returns-then-cell_lengths-k-gt0 c = search looking
+pub returns-then-sheet-k-gt0 : goal.returns-then-sheet-k-gt0
+returns-then-sheet-k-gt0 c = search looking
 
 pub loop-n-preserved : goal.loop-n-preserved
 loop-n-preserved c = search looking

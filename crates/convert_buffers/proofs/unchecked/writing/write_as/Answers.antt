@@ -1,12 +1,13 @@
--- `convert_buffers::unchecked::writing::write_as` meets its contract.
-use Rattle.convert_buffers.proofs.Written.{as_raw, as_named}
+-- `convert_buffers::unchecked::writing::write_as` meets its contract: the line is written where it fits, and refused with 12 else.
+use Rattle.convert_buffers.proofs.Written.{writing_short, writing_room, writing_done}
+use borrow.Author.Rules.{rules}
 use Rattle.convert_buffers.proofs.unchecked.writing.write_as.Goals as goal
 
-pub returns-in-Raw : goal.returns-in-Raw
-returns-in-Raw c = search as_raw
+pub returns-in-Some : goal.returns-in-Some
+returns-in-Some c = search writing_short
 
-pub returns-in-Tokenized : goal.returns-in-Tokenized
-returns-in-Tokenized c = search as_named
+pub line_as-requires : goal.line_as-requires
+line_as-requires c = (search rules, search rules, search writing_room)
 
-pub returns-in-Partial : goal.returns-in-Partial
-returns-in-Partial c = search as_named
+pub returns-in-None : goal.returns-in-None
+returns-in-None c = search writing_done

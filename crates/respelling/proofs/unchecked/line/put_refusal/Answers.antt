@@ -20,4 +20,7 @@ pub shape_of-out : goal.shape_of-out
 shape_of-out c = omega (arith, stored (goal.at.shape_of-out c).Start)
 
 pub returns : goal.returns
-returns c = record { puts = put_refused c.args.r c.requires c.put_number-a.ensures.puts c.put_number.ensures.puts; upper_bound = search rules }
+returns c = record {
+  puts = put_refused c.args.r c.requires (rw (c.from.ensures, c.number.ensures) at c.put_number-a.ensures.puts) c.put_number.ensures.puts;
+  upper_bound = search rules;
+}

@@ -1,11 +1,15 @@
 -- `respelling::unchecked::run::read_told` meets its contract.
-use mathlib.Core.Path.{refl}
-use mir.Syntax.{w64}
-use mir.ValLaws.{to_z-of_z}
-use Rattle.respelling.proofs.Calls.{of_error}
+use borrow.Author.Rules.{rules}
 use Rattle.respelling.specs.Run.{read_told}
+use Rattle.respelling.proofs.Calls.{told_again, told_failed}
 use Rattle.respelling.proofs.unchecked.run.read_told.Goals as goal
 
-pub returns : goal.returns
+pub returns-in-Ok : goal.returns-in-Ok
 unfolding read_told
-returns c = rw (to_z-of_z w64 c.args.got c.ranges.got, of_error c.args.error c.ranges.error) refl
+returns-in-Ok c = search rules
+
+pub returns-in-Err : goal.returns-in-Err
+returns-in-Err c = told_again c.in-Err.is c.raw_os_error.ensures c.eq.ensures c.if-eq.true
+
+pub returns-in-Err-2 : goal.returns-in-Err-2
+returns-in-Err-2 c = told_failed c.in-Err.is c.raw_os_error.ensures c.eq.ensures c.if-eq.false

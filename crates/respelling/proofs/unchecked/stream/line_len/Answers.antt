@@ -1,15 +1,11 @@
--- `respelling::unchecked::stream::line_len` meets its contract. The invariant: no LF stands before i.
-use Rattle.respelling.proofs.Scan.{scan_start, scan_feed, scan_more, scan_end}
+-- `respelling::unchecked::stream::line_len` meets its contract.
+use Rattle.std.proofs.Common.{rules, ◌≡◌, ◌≤◌, ◌<◌, ◌≢◌, ℕ, length, slice_index}
+use Rattle.respelling.proofs.Scan.{line_ends}
 use Rattle.respelling.proofs.unchecked.stream.line_len.Goals as goal
 
-pub loop-i-init : goal.loop-i-init
-loop-i-init c = scan_start _
-
-pub returns-then-s-i-eq10 : goal.returns-then-s-i-eq10
-returns-then-s-i-eq10 c = search scan_feed
-
-pub loop-i-preserved : goal.loop-i-preserved
-loop-i-preserved c = search scan_more
-
 pub returns : goal.returns
-returns c = search scan_end
+returns c =
+    let within : c.unwrap_or.result ≤ length c.args.s.now = search rules in
+    let before : (i : ℕ) → i < c.unwrap_or.result → slice_index c.args.s.now i ≢ 10 = search rules in
+    let found : c.unwrap_or.result < length c.args.s.now → slice_index c.args.s.now c.unwrap_or.result ≡ 10 = search rules in
+    line_ends _ _ within before found

@@ -5,8 +5,8 @@ use lib.ListN.{length}
 use Rattle.respelling.proofs.Turns.{Going}
 use Rattle.respelling.proofs.unchecked.stream.respell.Given as goal
 
-abbrev pub invariant-loop-last : goal.invariant-loop-last
-invariant-loop-last l = Going l.last l.input l.initial.out l.out l.used l.wrote
+abbrev pub invariant-loop-t : goal.invariant-loop-t
+invariant-loop-t l = Going l.last l.input l.initial.out l.out l.used l.wrote
 
-abbrev pub decreases-loop-last : goal.decreases-loop-last
-decreases-loop-last l = length l.input - l.used
+abbrev pub decreases-loop-t : goal.decreases-loop-t
+decreases-loop-t l = length l.input - l.used
