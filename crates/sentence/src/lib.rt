@@ -4,6 +4,7 @@
 pub mod unchecked; // unchecked.rt: for a refusal at a small place
 
 ghost use Rattle.std.specs.Prelude.{◌≡◌};
+ghost use Rattle.sentence.specs.Forms.{no_reader, no_writer, form_of};
 ghost use Rattle.sentence.specs.Refusals.{reason_number, refusal, reader_of, writer_of};
 
 // The form of a line.
@@ -21,24 +22,50 @@ impl TryFrom<u32> for Form {
     ghost try_from_gives = { λ number form. form ≡ reader_of number };
 
     fn try_from(number: u32) -> Result<Self, Refusal> {
-        match number {
-            0 => Ok(Form::Raw),
-            1 => Ok(Form::Tokenized),
-            2 => Ok(Form::Partial),
-            _ => Err(NO_FORM),
+        if Form::no_reader(number) {
+            return Err(NO_FORM);
         }
+        Ok(Form::of(number))
     }
 }
 
 impl Form {
+    // Whether a number is no form.
+    #[tactic(auto, unfolding(crate::specs::Forms::no_reader))]
+    pub fn no_reader(number: u32) -> bool
+        ensures { result ≡ no_reader number }
+    {
+        2 < number
+    }
+
+    // Whether a number is no form to write.
+    #[tactic(auto, unfolding(crate::specs::Forms::no_writer, crate::specs::Forms::no_reader))]
+    pub fn no_writer(number: u32) -> bool
+        ensures { result ≡ no_writer number }
+    {
+        (number == 0) | (2 < number)
+    }
+
+    // The form of a number: 0 raw, 1 tokenized, any other partial; a call refuses a number that is no form before.
+    #[tactic(auto, using(crate::proofs::Forms::is_partial), unfolding(crate::specs::Forms::form_of))]
+    pub fn of(number: u32) -> Form
+        ensures { result ≡ form_of number }
+    {
+        match number {
+            0 => Form::Raw,
+            1 => Form::Tokenized,
+            _ => Form::Partial,
+        }
+    }
+
     // The form to write of a number: 1 tokenized, 2 partial.
     pub fn to_write(number: u32) -> Result<Form, Refusal>
         ensures { result ≡ writer_of number }
     {
-        match Form::try_from(number)? {
-            Form::Raw => Err(NO_FORM),
-            form => Ok(form),
+        if Form::no_writer(number) {
+            return Err(NO_FORM);
         }
+        Ok(Form::of(number))
     }
 }
 

@@ -1,15 +1,12 @@
 -- `sentence::FormTryFromU32::try_from` meets its contract.
-use Rattle.sentence.proofs.Forms.{read_0, read_1, read_2, read_none}
+use Rattle.sentence.specs.Refusals.{reader_of}
+use Rattle.sentence.proofs.Forms.{tests_refused, tests_served}
 use Rattle.sentence.proofs.FormTryFromU32.try_from.Goals as goal
 
-pub returns-in-0 : goal.returns-in-0
-returns-in-0 c = search read_0
+pub returns-then-no_reader : goal.returns-then-no_reader
+unfolding reader_of
+returns-then-no_reader c = tests_refused _ _ c.no_reader.ensures c.if-no_reader.true
 
-pub returns-in-1 : goal.returns-in-1
-returns-in-1 c = search read_1
-
-pub returns-in-2 : goal.returns-in-2
-returns-in-2 c = search read_2
-
-pub returns-in_default : goal.returns-in_default
-returns-in_default c = search read_none
+pub returns : goal.returns
+unfolding reader_of
+returns c = tests_served _ _ c.no_reader.ensures c.if-no_reader.false c.of.ensures
