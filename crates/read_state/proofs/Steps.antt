@@ -17,9 +17,9 @@ use Rattle.sentence.specs.Reading.{kind, ordinary, inside, opening, step, advanc
 use Rattle.sentence.proofs.Shape.{StepOf, step_of}
 use Rattle.read_state.specs.declared.State.{State}
 use Rattle.read_state.specs.declared.Mark.{Mark}
-use Rattle.read_state.specs.declared.Act.{Act}
+use Rattle.read_state.specs.declared.Stepped.{Stepped}
 use Rattle.read_state.specs.declared.Kind as kinds
-use Rattle.read_state.specs.States.{mark_of, kind_in, place_of, state_of, act_in, act_of, Steps, literal}
+use Rattle.read_state.specs.States.{mark_of, kind_in, place_of, state_of, state_in, act_in, act_of, stepped, literal}
 use Rattle.read_state.proofs.Enums.{kind_is, act_back, state_back}
 
 -- ---- a step, by what the code tests first
@@ -80,7 +80,7 @@ step_meant partial behind c w h = inside_meant partial behind c w
 step_meant partial in_tag c w h = inside_meant partial in_tag c w
 
 -- ---- a character that is not NUL; the premises are as `follow` has them
-module _ (s t : State) (f : Form) (c : ℕ) (r : Result Act Reason) (z : c ≡ 0 → ⊥) where
+module _ (s : State) (f : Form) (c : ℕ) (r : Result Stepped Reason) (z : c ≡ 0 → ⊥) where
   advance_escaped : s.escape ≡ true → advance f (state_of s) c ≡ ordinary f (place_of s.place) c
   unfolding advance state_of step when◌then◌else◌
   advance_escaped h = rw (ne_eqb c 0 z, h)
@@ -89,31 +89,31 @@ module _ (s t : State) (f : Form) (c : ℕ) (r : Result Act Reason) (z : c ≡ 0
   unfolding advance state_of when◌then◌else◌
   advance_at h = rw (ne_eqb c 0 z, h)
 
-  pub hands_escaped : s.escape ≡ true → ((d : ℕ) → Steps (ordinary f (place_of s.place) d) s t r) → Steps (advance f (state_of s) c) s t r
+  pub hands_escaped : s.escape ≡ true → ((d : ℕ) → r ≡ stepped (ordinary f (place_of s.place) d)) → r ≡ stepped (advance f (state_of s) c)
   hands_escaped h e = rw (advance_escaped h) (e c)
 
   pub hands_literal : (l : Bool) → s.escape ≡ false → l ≡ literal f (place_of s.place) → l ≡ true
-      → ((d : ℕ) → Steps (ordinary f (place_of s.place) d) s t r) → Steps (advance f (state_of s) c) s t r
+      → ((d : ℕ) → r ≡ stepped (ordinary f (place_of s.place) d)) → r ≡ stepped (advance f (state_of s) c)
   hands_literal l h p q e = rw (advance_at h, step_literal f (place_of s.place) (kind f c) c (sym p ∙ q)) (e c)
 
   module _ (k : kinds.Kind) (h : s.escape ≡ false) (p : k ≡ kind_in (kind f c)) where
-    pub hands_plain : k ≡ kinds.TheVariants.Plain → ((d : ℕ) → Steps (ordinary f (place_of s.place) d) s t r) → Steps (advance f (state_of s) c) s t r
+    pub hands_plain : k ≡ kinds.TheVariants.Plain → ((d : ℕ) → r ≡ stepped (ordinary f (place_of s.place) d)) → r ≡ stepped (advance f (state_of s) c)
     hands_plain q e = rw (advance_at h, kind_is (kind f c) k _ p q, step_plain f (place_of s.place) c) (e c)
 
     module _ (l : Bool) (n : l ≡ literal f (place_of s.place)) (g : l ≡ false) where
-      meant : {m : Kind} → Meant m → kind f c ≡ m → Steps (step tokenized (at (place_of s.place)) m 0) s t r → Steps (advance f (state_of s) c) s t r
+      meant : {m : Kind} → Meant m → kind f c ≡ m → r ≡ stepped (step tokenized (at (place_of s.place)) m 0) → r ≡ stepped (advance f (state_of s) c)
       meant w i e = rw (advance_at h, i, step_meant f (place_of s.place) c w (sym n ∙ g)) e
 
-      pub hands_mark : (m : Mark) → k ≡ kinds.TheVariants.Mark m → Steps (step tokenized (at (place_of s.place)) (mark (mark_of m)) 0) s t r
-          → Steps (advance f (state_of s) c) s t r
+      pub hands_mark : (m : Mark) → k ≡ kinds.TheVariants.Mark m → r ≡ stepped (step tokenized (at (place_of s.place)) (mark (mark_of m)) 0)
+          → r ≡ stepped (advance f (state_of s) c)
       hands_mark m q e = meant a_mark (kind_is (kind f c) k _ p q) e
 
-      pub hands_slash : k ≡ kinds.TheVariants.Slash → Steps (step tokenized (at (place_of s.place)) slash 0) s t r
-          → Steps (advance f (state_of s) c) s t r
+      pub hands_slash : k ≡ kinds.TheVariants.Slash → r ≡ stepped (step tokenized (at (place_of s.place)) slash 0)
+          → r ≡ stepped (advance f (state_of s) c)
       hands_slash q e = meant a_slash (kind_is (kind f c) k _ p q) e
 
-      pub hands_back : k ≡ kinds.TheVariants.Back → Steps (step tokenized (at (place_of s.place)) back 0) s t r
-          → Steps (advance f (state_of s) c) s t r
+      pub hands_back : k ≡ kinds.TheVariants.Back → r ≡ stepped (step tokenized (at (place_of s.place)) back 0)
+          → r ≡ stepped (advance f (state_of s) c)
       hands_back q e = meant a_back (kind_is (kind f c) k _ p q) e
 
 -- ---- the line's end
@@ -136,19 +136,20 @@ pub record Stops (s : reading.Step) (q : Reason) : Type 0 where
   pub is : s ≡ stop number
   pub reason : q ≡ reason_of number
 
-module _ (c : ℕ) (s t : State) (r : Result Act Reason) where
-  steps_on : (a : Act) (e : reading.Step) → StepOf c e → Steps e s t r → r ≡ Ok a → e ≡ go (state_of t) (act_of c a)
+module _ (c : ℕ) (s : State) (r : Result Stepped Reason) where
+  steps_on : (a : Stepped) (e : reading.Step) → StepOf c e → r ≡ stepped e → r ≡ Ok a → e ≡ go (state_of a.state) (act_of c a.act)
   steps_on a (go σ b) o w i =
-      let j : a ≡ act_in b = cc in
-      rw (w.0, j, state_back σ, act_back c b o)
+      let j : a ≡ record { state = state_in σ; act = act_in b } = cc in
+      rw (j, state_back σ, act_back c b o)
   steps_on a (stop n) o w i = cc
 
-  steps_off : (q : Reason) (e : reading.Step) → Steps e s t r → r ≡ Err q → Stops e q
+  steps_off : (q : Reason) (e : reading.Step) → r ≡ stepped e → r ≡ Err q → Stops e q
   steps_off q (go σ b) w i = cc
   steps_off q (stop n) w i = record { number = n; is = refl; reason = cc }
 
-  pub advanced : (f : Form) (a : Act) → Steps (advance f (state_of s) c) s t r → r ≡ Ok a → advance f (state_of s) c ≡ go (state_of t) (act_of c a)
+  pub advanced : (f : Form) (a : Stepped) → r ≡ stepped (advance f (state_of s) c) → r ≡ Ok a
+      → advance f (state_of s) c ≡ go (state_of a.state) (act_of c a.act)
   advanced f a w i = steps_on a (advance f (state_of s) c) (advance_of f (state_of s) c) w i
 
-  pub refused : (f : Form) (q : Reason) → Steps (advance f (state_of s) c) s t r → r ≡ Err q → Stops (advance f (state_of s) c) q
+  pub refused : (f : Form) (q : Reason) → r ≡ stepped (advance f (state_of s) c) → r ≡ Err q → Stops (advance f (state_of s) c) q
   refused f q w i = steps_off q (advance f (state_of s) c) w i

@@ -1,5 +1,5 @@
 -- The code's state as a state of the definitions' reader, and what a step and the line's end give as the code's enums.
-use Rattle.std.specs.Prelude.{ℕ, ◌≡◌, Bool, true, false, Result, Ok, Err}
+use Rattle.std.specs.Prelude.{ℕ, Bool, true, false, Result, Ok, Err}
 use Rattle.laws.specs.If.{when◌then◌else◌}
 use Rattle.sentence.specs.Sentence as sentence
 use Rattle.sentence.specs.Reading as reading
@@ -17,6 +17,7 @@ use Rattle.read_state.specs.declared.Act.TheVariants.{Skip, Letter, Opens, OfTag
 use Rattle.read_state.specs.declared.Place.{Place}
 use Rattle.read_state.specs.declared.Place.TheVariants.{Start, Behind, InTag, Gap}
 use Rattle.read_state.specs.declared.State.{State}
+use Rattle.read_state.specs.declared.Stepped.{Stepped}
 
 abbrev pub mark_of : Mark → sentence.Mark
 mark_of None = sentence.none
@@ -72,10 +73,10 @@ act_of c (Letter m) = reading.letter (mark_of m) c
 act_of c Opens = reading.opens
 act_of c OfTag = reading.of_tag c
 
--- a step from the state s: the state t after it, and what the character does; or why it is refused, and the state as it was
-abbrev pub Steps : reading.Step → State → State → Result Act Reason → Type 0
-Steps (reading.go σ a) s t r = (t ≡ state_in σ) × (r ≡ Ok (act_in a))
-Steps (reading.stop e) s t r = (t ≡ s) × (r ≡ Err (reason_of e))
+-- a step, as the code hands it back: the next state and what the character does, or why it is refused
+abbrev pub stepped : reading.Step → Result Stepped Reason
+stepped (reading.go σ a) = Ok (record { state = state_in σ; act = act_in a })
+stepped (reading.stop e) = Err (reason_of e)
 
 -- the line's end: it is whole, or why it is refused
 abbrev pub ended : reading.Run → Result (Unit {0}) Reason

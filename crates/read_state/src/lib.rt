@@ -1,4 +1,4 @@
-// The state of a reader, stepped over the characters of a line.
+// The state of a reader, stepped by value over the characters of a line.
 #![tactic(auto)]
 
 pub mod unchecked;
@@ -7,10 +7,9 @@ ghost use Rattle.std.specs.Prelude.{◌≡◌, ℕ, Ok};
 ghost use Rattle.sentence.specs.Sentence.{code};
 ghost use Rattle.sentence.specs.Refusals.{reason_of};
 ghost use Rattle.sentence.specs.declared.Form.TheVariants.{Tokenized as tokenized, Partial as partial};
-ghost use Rattle.sentence.specs.Reading.{mark, slash, back, at, start, behind, kind, ordinary, step};
+ghost use Rattle.sentence.specs.Reading.{mark, slash, back, at, start, behind, go, letter, kind, ordinary, step};
 ghost use Rattle.sentence.specs.Reading.{advance, unfinished, finish};
-ghost use Rattle.read_state.specs.declared.Act.TheVariants.{Letter};
-ghost use Rattle.read_state.specs.States.{mark_of, place_of, state_of, state_in, kind_in, awaits, literal, Steps, ended};
+ghost use Rattle.read_state.specs.States.{mark_of, place_of, state_of, state_in, kind_in, awaits, literal, stepped, ended};
 
 use sentence::{Form, Reason};
 
@@ -69,6 +68,13 @@ pub struct State {
     // Each place can stand behind a backslash, so the flag is no part of the place.
     pub escape: bool,
     pub place: Place,
+}
+
+// What a step hands back: the next state, and what the character does.
+#[derive(Clone, Copy)]
+pub struct Stepped {
+    pub state: State,
+    pub act: Act,
 }
 
 // As casts, since `From` is no constant function.
@@ -170,28 +176,31 @@ impl State {
     }
 
     // A character of the text, with the boundary before it.
-    fn letter(&mut self, m: Mark) -> Act
-        ensures { (result ≡ Letter m) × (self.new ≡ state_in (at behind)) }
+    #[tactic(auto, using(crate::proofs::Enums::mark_back))]
+    fn letter(m: Mark) -> Stepped
+        ensures { Ok result ≡ stepped (go (at behind) (letter (mark_of m) 0)) }
     {
-        *self = State::at(Place::Behind);
-        Act::Letter(m)
+        Stepped {
+            state: State::at(Place::Behind),
+            act: Act::Letter(m),
+        }
     }
 
     // An ordinary character: of the open tag, else text; behind another the partial form has none.
-    #[tactic(auto, using(crate::proofs::Enums::mark_back), unfolding(sentence::specs::Reading::ordinary))]
-    fn ordinary(&mut self, form: Form) -> Result<Act, Reason>
-        ensures { (c : ℕ) → Steps (ordinary form (place_of self.old.place) c) self.old self.new result }
+    #[tactic(auto, unfolding(sentence::specs::Reading::ordinary))]
+    fn ordinary(self, form: Form) -> Result<Stepped, Reason>
+        ensures { (c : ℕ) → result ≡ stepped (ordinary form (place_of self.place) c) }
     {
         match self.place {
-            Place::Start => Ok(self.letter(Mark::None)),
-            Place::Gap(m) => Ok(self.letter(m)),
-            Place::InTag => {
-                self.escape = false;
-                Ok(Act::OfTag)
-            }
+            Place::Start => Ok(State::letter(Mark::None)),
+            Place::Gap(m) => Ok(State::letter(m)),
+            Place::InTag => Ok(Stepped {
+                state: State::at(Place::InTag),
+                act: Act::OfTag,
+            }),
             Place::Behind => match form {
-                Form::Raw => Ok(self.letter(Mark::Unknown)),
-                Form::Tokenized => Ok(self.letter(Mark::None)),
+                Form::Raw => Ok(State::letter(Mark::Unknown)),
+                Form::Tokenized => Ok(State::letter(Mark::None)),
                 Form::Partial => Err(Reason::BadMark),
             },
         }
@@ -199,42 +208,49 @@ impl State {
 
     // A plain boundary: none is right where a token begins.
     #[tactic(auto, unfolding(sentence::specs::Reading::step, sentence::specs::Reading::inside, sentence::specs::Reading::opening))]
-    fn boundary(&mut self, m: Mark) -> Result<Act, Reason>
-        ensures { Steps (step tokenized (at (place_of self.old.place)) (mark (mark_of m)) 0) self.old self.new result }
+    fn boundary(self, m: Mark) -> Result<Stepped, Reason>
+        ensures { result ≡ stepped (step tokenized (at (place_of self.place)) (mark (mark_of m)) 0) }
     {
         match self.place {
             Place::Start => Err(Reason::LeadingSpace),
             Place::Gap(_) => Err(Reason::SecondSpace),
-            _ => {
-                *self = State::at(Place::Gap(m));
-                Ok(Act::Skip)
-            }
+            _ => Ok(Stepped {
+                state: State::at(Place::Gap(m)),
+                act: Act::Skip,
+            }),
         }
     }
 
     // A plain slash: none is right where a token begins.
     #[tactic(auto, unfolding(sentence::specs::Reading::step, sentence::specs::Reading::inside, sentence::specs::Reading::opening))]
-    fn slash(&mut self) -> Result<Act, Reason>
-        ensures { Steps (step tokenized (at (place_of self.old.place)) slash 0) self.old self.new result }
+    fn slash(self) -> Result<Stepped, Reason>
+        ensures { result ≡ stepped (step tokenized (at (place_of self.place)) slash 0) }
     {
         if self.place.awaits() {
             return Err(Reason::StraySlash);
         }
-        *self = State::at(Place::InTag);
-        Ok(Act::Opens)
+        Ok(Stepped {
+            state: State::at(Place::InTag),
+            act: Act::Opens,
+        })
     }
 
     // A plain backslash: the next character is ordinary.
-    fn backslash(&mut self) -> Act
-        ensures { Steps (step tokenized (at (place_of self.old.place)) back 0) self.old self.new (Ok result) }
+    fn backslash(self) -> Stepped
+        ensures { Ok result ≡ stepped (step tokenized (at (place_of self.place)) back 0) }
     {
-        self.escape = true;
-        Act::Skip
+        Stepped {
+            state: State {
+                escape: true,
+                place: self.place,
+            },
+            act: Act::Skip,
+        }
     }
 
-    // One character; a refusal leaves the state as it was.
-    pub fn step(&mut self, form: Form, c: u32) -> Result<Act, Reason>
-        ensures { Steps (advance form (state_of self.old) c) self.old self.new result }
+    // One character: the next state and what the character does, or why it is refused.
+    pub fn step(self, form: Form, c: u32) -> Result<Stepped, Reason>
+        ensures { result ≡ stepped (advance form (state_of self) c) }
     {
         if c == 0 {
             return Err(Reason::Nul);

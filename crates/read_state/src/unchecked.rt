@@ -1,16 +1,16 @@
 // The step of a pass over a line that was read before.
 ghost use Rattle.std.specs.Prelude.{◌≡◌};
 ghost use Rattle.sentence.specs.Reading.{advance};
-ghost use Rattle.read_state.specs.States.{state_of, Steps};
+ghost use Rattle.read_state.specs.States.{state_of, stepped};
 
-use crate::{Act, Kind, State, meaning};
+use crate::{Kind, State, Stepped, meaning};
 use sentence::{Form, Reason};
 
-// One character that is no NUL, compiled into the loop of each pass; a refusal leaves the state as it was.
+// One character that is no NUL, compiled into the loop of each pass.
 #[inline(always)]
-pub fn follow(s: &mut State, form: Form, c: u32) -> Result<Act, Reason>
+pub fn follow(s: State, form: Form, c: u32) -> Result<Stepped, Reason>
     requires { c ≡ 0 → ⊥ }
-    ensures { Steps (advance form (state_of s.old) c) s.old s.new result }
+    ensures { result ≡ stepped (advance form (state_of s) c) }
 {
     if s.escape || s.place.is_literal(form) {
         return s.ordinary(form);
