@@ -39,11 +39,11 @@ pub fn fill(form: Form, columns: usize, line: &[u8], buffers: &mut Buffers<'_>)
     while at < line.len() {
         let found = utf8::unchecked::char_at(line, at);
         let end = at + found.len;
-        let Ok(act) = read_state::unchecked::follow(&mut state, form, found.value) else {
+        let Ok(stepped) = read_state::unchecked::follow(state, form, found.value) else {
             unreachable!()
         };
         read_stores::unchecked::turn(
-            act,
+            stepped.act,
             found.value,
             &line[at..end],
             counts,
@@ -51,7 +51,8 @@ pub fn fill(form: Form, columns: usize, line: &[u8], buffers: &mut Buffers<'_>)
             &tables,
             &mut own,
         );
-        counts.tally(act, found.len);
+        counts.tally(stepped.act, found.len);
+        state = stepped.state;
         at = end;
     }
     read_stores::unchecked::finish(counts, columns, &mut own);

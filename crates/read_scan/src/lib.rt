@@ -62,7 +62,10 @@ pub fn scan(form: Form, line: &[u8]) -> Result<Record, Refusal>
         match utf8::decode(line, at) {
             Decoded::Char { value, len } => {
                 match state.step(form, value) {
-                    Ok(act) => counts.tally(act, len),
+                    Ok(stepped) => {
+                        counts.tally(stepped.act, len);
+                        state = stepped.state;
+                    }
                     Err(reason) => return Err(stopped(line, at, reason)),
                 }
                 at += len;
