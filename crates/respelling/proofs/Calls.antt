@@ -5,7 +5,7 @@ use Rattle.std.specs.Ordering.{int_eq}
 use Rattle.std.specs.Option.{option_eq}
 use Rattle.std.specs.IoError.{raw_os_error}
 use Rattle.std.specs.declared.io.Error.{Error}
-use Prim.Native.Nat.{ℕ, zero, suc, min, ◌+◌, ◌-◌, ◌≤◌, ◌<◌}
+use Prim.Native.Nat.{ℕ, zero, suc, min, ◌+◌, ◌-◌, ◌≤◌, ◌<◌, ◌^◌}
 use native.Mathlib.Omega.{arith}
 use native.Mathlib.Nat.{sub-zero, zero-sub}
 use mathlib.Core.Path.{◌≡◌, refl, sym, ◌∙◌}
@@ -15,10 +15,12 @@ use borrow.Author.Tests.{ltb-true, ltb-false, eq-eqb, ne_eqb}
 use Rattle.std.proofs.lemmas.Bool.Decides.{nat_tests}
 use lib.Dec.{eqb, ltb}
 use lib.IntN.{ℤ, pos, negsuc}
+use mir.Syntax.{w32}
+use mir.Val.{SFits, of_z}
 use lib.ListN.{length, take, drop, length-take, length-drop}
 use native.Mathlib.Numerals.{unary_clauses}
 use lib.Seq.{take-nil, drop-nil, length-take-le}
-use Rattle.laws.specs.If.{when◌then◌else◌, if_true, if_false, if_cases}
+use Rattle.laws.specs.If.{when◌then◌else◌, if_true, if_false, if_cases, if_both, if_map}
 use Rattle.respelling.specs.declared.Turn.{Turn}
 use Rattle.respelling.specs.declared.Stand.{Stand}
 use Rattle.respelling.specs.declared.Call.{Call}
@@ -26,7 +28,7 @@ use Rattle.respelling.specs.declared.Call.TheVariants.{Moved, Again, Failed}
 use Rattle.respelling.specs.Stream.{turn, Turned}
 use Rattle.respelling.proofs.Turns.{used_within}
 use Rattle.respelling.specs.Run.{held_end, answered_stand, Answered, interrupted, error_told}
-use Rattle.respelling.specs.Run.{read_told, write_told, moved, after_failure, after_read, after_write}
+use Rattle.respelling.specs.Run.{call_of, read_told, write_told, moved, after_failure, after_read, after_write}
 
 -- the record with the places and flags told
 abbrev stand : ℕ → ℕ → ℕ → ℕ → Bool → Bool → Bool → Stand
@@ -57,6 +59,30 @@ module _ (s : Stand) {c : Call} where
   unfolding after_write
   write_failed e = rw e refl
 
+-- ---- what a call came to
+-- what stands after it, by its bytes and whether it failed and is made again
+module _ (s : Stand) (n : ℕ) (failed again : Bool) where
+  pub after_read_of : after_read s (call_of n failed again)
+      ≡ (when failed then (when again then s else after_failure s) else stand s.from (s.to + n) s.put s.wrote (s.last || eqb n 0) false s.failed)
+  unfolding call_of after_read
+  after_read_of = rw (if_map (after_read s) failed (when again then Again else Failed) (Moved n), if_map (after_read s) again Again Failed) refl
+
+  pub after_write_of : after_write s (call_of n failed again)
+      ≡ (when failed then (when again then s else after_failure s) else stand s.from s.to (s.put + n) s.wrote s.last s.waits s.failed)
+  unfolding call_of after_write
+  after_write_of = rw (if_map (after_write s) failed (when again then Again else Failed) (Moved n), if_map (after_write s) again Again Failed) refl
+
+  -- it moved no more than these bytes
+  pub moved_of : moved (call_of n failed again) ≤ n
+  unfolding call_of
+  moved_of = if_both (λ (c : Call). moved c ≤ n) failed _ _ (if_both (λ (c : Call). moved c ≤ n) again _ _ (omega arith) (omega arith)) (omega arith)
+
+-- the number of an error, as the code compares it
+pub of_error : (z : ℤ) → SFits w32 z → eqb (of_z w32 z) 4 ≡ interrupted z
+unfolding interrupted
+of_error (pos n) f = refl
+of_error (negsuc n) f = ne_eqb (2 ^ 32 - suc n) 4 (λ e. omega (arith, f.sfits))
+
 -- ---- what an answer tells
 -- the error of an interrupted call, as the code compares it
 is_interrupted : (z : ℤ) → int_eq z (pos 4) ≡ interrupted z
@@ -69,14 +95,10 @@ unfolding error_told when◌then◌else◌
 error_is None = refl
 error_is (Some z) = rw is_interrupted refl
 
-module _ {a : Result ℕ Error} {e : Error} {o : Option ℤ} {b : Bool} (r : a ≡ Err e) (q : o ≡ raw_os_error e) (t : b ≡ option_eq int_eq o (Some (pos 4))) where
-  pub told_again : b ≡ true → Again ≡ read_told a
-  unfolding read_told
-  told_again u = rw r (sym (error_is (raw_os_error e) ∙ if_true _ _ _ (rw q at (sym t ∙ u))))
-
-  pub told_failed : b ≡ false → Failed ≡ read_told a
-  unfolding read_told
-  told_failed u = rw r (sym (error_is (raw_os_error e) ∙ if_false _ _ _ (rw q at (sym t ∙ u))))
+pub told_error : {a : Result ℕ Error} {e : Error} {o : Option ℤ} {b : Bool} {c : Call} → a ≡ Err e → o ≡ raw_os_error e
+    → b ≡ option_eq int_eq o (Some (pos 4)) → c ≡ call_of 0 true b → c ≡ read_told a
+unfolding read_told call_of when◌then◌else◌
+told_error {e = e} r q t p = rw r (p ∙ rw (t, q) (sym (error_is (raw_os_error e))))
 
 module _ {a : Result ℕ Error} {n : ℕ} (r : a ≡ Ok n) where
   pub told_nothing : n ≡ 0 → Failed ≡ write_told a

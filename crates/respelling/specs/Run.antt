@@ -1,6 +1,7 @@
 -- The program between its calls of the system: what stands, how each call moves it, and what a run has read and written.
 use Rattle.std.specs.Prelude.{ℕ, ◌+◌, ◌-◌, ◌≤◌, ◌<◌, ◌≡◌, Bool, true, false, not, ◌&&◌, ◌||◌, List, [], ◌++◌, eqb, leb, ltb, ℤ, pos, negsuc, length, take, drop}
 use Rattle.std.specs.Prelude.{Option, None, Some, Result, Ok, Err}
+use Rattle.std.specs.Int.Signed.{lt_z, le_z}
 use Rattle.std.specs.IoError.{raw_os_error}
 use Rattle.std.specs.declared.io.Error.{Error}
 use Rattle.laws.specs.If.{when◌then◌else◌}
@@ -141,6 +142,17 @@ pub record Kept (s : Stand) (input : List ℕ) (r : Stand) (input' : List ℕ) :
 unfoldable pub interrupted : ℤ → Bool
 interrupted (pos n) = eqb n 4
 interrupted (negsuc n) = false
+
+-- what a call came to: the bytes that it moved, or where it failed whether it is made again
+unfoldable pub call_of : ℕ → Bool → Bool → Call
+call_of n failed again = when failed then (when again then Again else Failed) else Moved n
+
+-- what a read and a write say by the number that they answer, the bytes that count, and the number of their error; a write that takes nothing has failed
+unfoldable pub read_told_by : ℤ → ℕ → ℤ → Call
+read_told_by got n error = call_of n (lt_z got (pos 0)) (interrupted error)
+
+unfoldable pub write_told_by : ℤ → ℕ → ℤ → Call
+write_told_by got n error = call_of n (le_z got (pos 0)) (lt_z got (pos 0) && interrupted error)
 
 -- what a call that failed is, by its error
 unfoldable pub error_told : Option ℤ → Call

@@ -4,4 +4,7 @@ mod line;
 mod run;
 mod stream;
 
-pub use run::{after_read, after_write, answer, goes, keep, read_told, start, write_told};
+pub use run::{
+    after_read, after_write, answer, goes, keep, read_told, read_told_by, start, write_told,
+    write_told_by,
+};

@@ -1,7 +1,8 @@
 // What stands between two calls of the system, and what each call makes of it.
 ghost use Rattle.std.specs.Prelude.{◌+◌, ◌≤◌, ◌≡◌, length};
 ghost use Rattle.respelling.specs.Stream.{turn};
-ghost use Rattle.respelling.specs.Run.{held_bytes, HeldIn, first, held_end, Answered, Kept, moved, read_told, write_told, after_read, after_write, goes_on};
+ghost use Rattle.respelling.specs.Run.{held_bytes, HeldIn, first, held_end, Answered, Kept, moved, call_of, read_told_by, write_told_by, read_told, write_told};
+ghost use Rattle.respelling.specs.Run.{after_read, after_write, goes_on};
 
 use crate::unchecked::stream::respell;
 use crate::{Call, Stand};
@@ -67,14 +68,40 @@ pub fn keep(s: Stand, input: &mut [u8]) -> Stand
 // The number of the error of a call that a signal interrupted: EINTR.
 const INTERRUPTED: i32 = 4;
 
+impl Call {
+    // A call that moved so many bytes, or that failed and is to be made again where that is asked.
+    pub fn of(moved: usize, failed: bool, again: bool) -> Call
+        ensures { result ≡ call_of moved failed again }
+    {
+        match (failed, again) {
+            (false, _) => Call::Moved(moved),
+            (true, true) => Call::Again,
+            (true, false) => Call::Failed,
+        }
+    }
+}
+
+// What a read says by the number that it answers, of which so many bytes count, and by the number of its error.
+pub fn read_told_by(got: isize, moved: usize, error: i32) -> Call
+    ensures { result ≡ read_told_by got moved error }
+{
+    Call::of(moved, got < 0, error == INTERRUPTED)
+}
+
+// What a write says so; one that takes nothing has failed.
+pub fn write_told_by(got: isize, moved: usize, error: i32) -> Call
+    ensures { result ≡ write_told_by got moved error }
+{
+    Call::of(moved, got <= 0, (got < 0) & (error == INTERRUPTED))
+}
+
 // What a read says by its answer.
 pub fn read_told(answer: &io::Result<usize>) -> Call
     ensures { result ≡ read_told answer.now }
 {
     match answer {
         Ok(moved) => Call::Moved(*moved),
-        Err(why) if why.raw_os_error() == Some(INTERRUPTED) => Call::Again,
-        Err(_) => Call::Failed,
+        Err(why) => Call::of(0, true, why.raw_os_error() == Some(INTERRUPTED)),
     }
 }
 
