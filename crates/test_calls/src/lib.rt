@@ -1,6 +1,8 @@
 // The calls on a sheet that a question asks for, each with its small answer by value; and what a case changes of a sheet.
 #![tactic(auto)]
 
+ghost use Rattle.std.specs.Prelude.{◌≤◌};
+
 use changes::{reset_tags, set_boundary};
 use lookups::{boundary, char_to_str_pos, str_to_char_pos, surface, tag};
 use scores::predict;
@@ -55,13 +57,20 @@ impl Damage {
         }
     }
 
+    // How much of a buffer is lent.
+    pub fn lent(self, index: usize, whole: usize) -> usize
+        ensures { result ≤ whole }
+    {
+        if (self.letter == b'L') & (self.index == index) {
+            return self.value.min(whole);
+        }
+        whole
+    }
+
     // As much of a buffer as is lent.
     fn part<'a, T>(self, index: usize, buffer: &'a mut [T]) -> &'a mut [T] {
-        if (self.letter == b'L') & (self.index == index) {
-            let n = self.value.min(buffer.len());
-            return &mut buffer[..n];
-        }
-        buffer
+        let n = self.lent(index, buffer.len());
+        &mut buffer[..n]
     }
 
     // As much of each buffer as is lent.
@@ -94,27 +103,24 @@ pub fn sheet_of<'a>(record: Record, buffers: &'a Buffers<'_>) -> Sheet<'a> {
     }
 }
 
-// The change of a question's letter, and the buffers as it left them: a boundary is set, tags are reset, or boundaries follow scores; other
-// letters ask for none.
-pub fn change<'a>(
+// The change of a question's letter: a boundary is set, tags are reset, or boundaries follow scores; other letters ask for none.
+// The buffers come one by one, since those that no change alters may be lent to be read alone.
+pub fn change(
     letter: u8,
     record: Record,
-    buffers: Buffers<'a>,
+    text: &[u8],
+    types: &[u8],
+    boundaries: &mut [u8],
+    char_pos: &[u16],
+    byte_pos: &[u16],
+    cell_starts: &mut [u16],
+    cell_lengths: &mut [u16],
+    tag_bytes: &[u8],
     number: usize,
     value: u8,
     scores: &[i32],
-) -> (Result<Record, Refusal>, Buffers<'a>) {
-    let Buffers {
-        text,
-        types,
-        boundaries,
-        char_pos,
-        byte_pos,
-        cell_starts,
-        cell_lengths,
-        tag_bytes,
-    } = buffers;
-    let changed = match letter {
+) -> Result<Record, Refusal> {
+    match letter {
         b'B' | b'm' => set_boundary(
             record,
             text,
@@ -153,18 +159,7 @@ pub fn change<'a>(
             scores,
         ),
         _ => Ok(record),
-    };
-    let left = Buffers {
-        text,
-        types,
-        boundaries,
-        char_pos,
-        byte_pos,
-        cell_starts,
-        cell_lengths,
-        tag_bytes,
-    };
-    (changed, left)
+    }
 }
 
 // The look-up of a question's letter, or N: a step of the token cursor. The numbers are the question's first and second.

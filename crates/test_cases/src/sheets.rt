@@ -49,14 +49,41 @@ fn served(line: &[u8], r: Record, buffers: Buffers<'_>, sink: Sink) -> Sink {
     let mut given = [0i32; 16];
     let n = scores_of(field(line, 3), &mut given);
     let scores = within(&given, 0, n);
-    let (changed, left) = change(
+    let Buffers {
+        text,
+        types,
+        boundaries,
+        char_pos,
+        byte_pos,
+        cell_starts,
+        cell_lengths,
+        tag_bytes,
+    } = buffers;
+    let changed = change(
         first(line),
         r,
-        buffers,
+        text,
+        types,
+        boundaries,
+        char_pos,
+        byte_pos,
+        cell_starts,
+        cell_lengths,
+        tag_bytes,
         place(line, 3),
         byte(line, 4),
         scores,
     );
+    let left = Buffers {
+        text,
+        types,
+        boundaries,
+        char_pos,
+        byte_pos,
+        cell_starts,
+        cell_lengths,
+        tag_bytes,
+    };
     told(line, changed, &sheet_of(r, &left), sink)
 }
 

@@ -24,7 +24,41 @@ fn call(line: &[u8], record: Record, buffers: Buffers<'_>, sink: Sink) -> Sink {
     match letter {
         b'm' | b'r' | b'p' => {
             let scores = &[-1, 1, 0, 0][..number.min(4)];
-            let (changed, left) = change(letter, record, buffers, number, byte(line, 4), scores);
+            let Buffers {
+                text,
+                types,
+                boundaries,
+                char_pos,
+                byte_pos,
+                cell_starts,
+                cell_lengths,
+                tag_bytes,
+            } = buffers;
+            let changed = change(
+                letter,
+                record,
+                text,
+                types,
+                boundaries,
+                char_pos,
+                byte_pos,
+                cell_starts,
+                cell_lengths,
+                tag_bytes,
+                number,
+                byte(line, 4),
+                scores,
+            );
+            let left = Buffers {
+                text,
+                types,
+                boundaries,
+                char_pos,
+                byte_pos,
+                cell_starts,
+                cell_lengths,
+                tag_bytes,
+            };
             show::left(&left, show::answer(changed, sink))
         }
         b'N' => sink,
