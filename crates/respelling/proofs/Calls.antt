@@ -72,10 +72,11 @@ module _ (s : Stand) (n : ℕ) (failed again : Bool) where
   unfolding call_of after_write
   after_write_of = rw (if_map (after_write s) failed (when again then Again else Failed) (Moved n), if_map (after_write s) again Again Failed) refl
 
-  -- it moved no more than these bytes
-  pub moved_of : moved (call_of n failed again) ≤ n
-  unfolding call_of
-  moved_of = if_both (λ (c : Call). moved c ≤ n) failed _ _ (if_both (λ (c : Call). moved c ≤ n) again _ _ (omega arith) (omega arith)) (omega arith)
+-- it moved no more than these bytes
+pub moved_of : (n : ℕ) (failed again : Bool) → moved (call_of n failed again) ≤ n
+unfolding call_of
+moved_of n failed again =
+    if_both (λ (c : Call). moved c ≤ n) failed _ _ (if_both (λ (c : Call). moved c ≤ n) again _ _ (omega arith) (omega arith)) (omega arith)
 
 -- the number of an error, as the code compares it
 pub of_error : (z : ℤ) → SFits w32 z → eqb (of_z w32 z) 4 ≡ interrupted z
