@@ -24,6 +24,7 @@ use Rattle.sheet.proofs.Eights.{every, one}
 use Rattle.read_state.specs.declared.State.{State}
 use Rattle.sentence.specs.declared.Reason.{Reason}
 use Rattle.std.specs.Prelude as prelude
+use Rattle.read_state.specs.declared.Act as acts
 use Rattle.read_state.specs.declared.Stepped.{Stepped}
 use Rattle.read_state.specs.States.{state_of, state_in, act_of, stepped}
 use Rattle.read_state.proofs.Enums.{state_back}
@@ -150,25 +151,25 @@ module _ {f : Form} {c : ℕ} {x : List ℕ} {σ : State} {k : Counts} {p : ℕ}
     unfolding advance when◌then◌else◌
     lay_some z = lay_goes 4 (rw z)
 
-    module _ (r : prelude.Result Stepped Reason) (w : r ≡ stepped (advance f (state_of σ) v)) where
-      pub lay_on : (o : Reason) → r ≡ prelude.Err o → ⊥
+    module _ (r : Stepped) (w : r ≡ stepped (advance f (state_of σ) v)) where
+      pub lay_on : (o : Reason) → r.act ≡ prelude.Err o → ⊥
       lay_on o i = let z = off v σ r f o w i in lay_goes z.number z.is
 
-      module _ {a : Stepped} (i : r ≡ prelude.Ok a) where
-        steps : advance f (state_of σ) v ≡ go (state_of a.state) (act_of v a.act)
+      module _ {a : acts.Act} (i : r.act ≡ prelude.Ok a) where
+        steps : advance f (state_of σ) v ≡ go (state_of r.state) (act_of v a)
         steps = advanced v σ r f a w i
 
-        act_of_lem : ActOf v (act_of v a.act)
+        act_of_lem : ActOf v (act_of v a)
         act_of_lem = subst (StepOf v) steps (advance_of f (state_of σ) v)
 
-        goes : Went (act_of v a.act) (run f (state_of a.state) (scalars (drop (p + n) x))) h.left
+        goes : Went (act_of v a) (run f (state_of r.state) (scalars (drop (p + n) x))) h.left
         unfolding run follow
-        goes = went (act_of v a.act) _ h.left (rw (left_char x p v n q, steps) at h.runs)
+        goes = went (act_of v a) _ h.left (rw (left_char x p v n q, steps) at h.runs)
 
-        parts : Goings (act_of v a.act ∷ goes.rest) k h.s d₀ d
+        parts : Goings (act_of v a ∷ goes.rest) k h.s d₀ d
         parts = subst (λ (l : List Act). Goings l k h.s d₀ d) goes.is h.goings
 
-        pub lay_turning : Turning c (act_of v a.act) k (take (p + n - p) (drop p x)) d
+        pub lay_turning : Turning c (act_of v a) k (take (p + n - p) (drop p x)) d
         unfolding decode_at
         lay_turning =
             let u : p + n - p ≡ n = omega arith in
@@ -178,18 +179,18 @@ module _ {f : Form} {c : ℕ} {x : List ℕ} {σ : State} {k : Counts} {p : ℕ}
               small = lay_small;
               narrow = record {
                 few = omega (arith, h.stride, lay_formed.columns_fit);
-                fits = omega (arith, h.stride, goings_narrow (act_of v a.act) goes.rest k h.s d₀ d parts);
+                fits = omega (arith, h.stride, goings_narrow (act_of v a) goes.rest k h.s d₀ d parts);
               };
               some = omega (arith, l, s);
               few = omega (arith, l, s);
-              bytes = act_bytes (act_of v a.act) v (take n (drop p x)) act_of_lem (encode_decode (drop p x) v n q).bytes;
-              room = rw h.stride (goings_room (act_of v a.act) goes.rest k h.s d₀ d parts);
+              bytes = act_bytes (act_of v a) v (take n (drop p x)) act_of_lem (encode_decode (drop p x) v n q).bytes;
+              room = rw h.stride (goings_room (act_of v a) goes.rest k h.s d₀ d parts);
             })
 
-        pub lay_go : {k' : Counts} {e : Buffers} → Stored c (λ (o : Store). o.emit (act_of v a.act) k) k d e → ((m : ℕ) → k' ≡ tally_by n (act_of m a.act) k)
-            → Laying f c x a.state k' (p + n) d₀ e
+        pub lay_go : {k' : Counts} {e : Buffers} → Stored c (λ (o : Store). o.emit (act_of v a) k) k d e → ((m : ℕ) → k' ≡ tally_by n (act_of m a) k)
+            → Laying f c x r.state k' (p + n) d₀ e
         lay_go {k'} {e} w i =
-            let j : k' ≡ tally (act_of v a.act) k = i v ∙ rw (width_at x p v n q) (tally_width (act_of v a.act) v k act_of_lem) in
+            let j : k' ≡ tally (act_of v a) k = i v ∙ rw (width_at x p v n q) (tally_width (act_of v a) v k act_of_lem) in
             record {
               s = h.s;
               left = goes.rest;
@@ -200,9 +201,9 @@ module _ {f : Form} {c : ℕ} {x : List ℕ} {σ : State} {k : Counts} {p : ℕ}
               valid = h.valid;
               within = char_within x p v n h.within q;
               passed = passed_char x p v n _ (sym q) refl h.passed;
-              small = rw (i v) (tally_small n p (act_of v a.act) k (omega (arith, len_ok x p v n q)) h.small);
+              small = rw (i v) (tally_small n p (act_of v a) k (omega (arith, len_ok x p v n q)) h.small);
               runs = goes.runs;
-              goings = rw j (goings_turn (act_of v a.act) goes.rest k h.s d₀ d parts e (rw h.stride at w));
+              goings = rw j (goings_turn (act_of v a) goes.rest k h.s d₀ d parts e (rw h.stride at w));
             }
 
   -- ---- the line's end

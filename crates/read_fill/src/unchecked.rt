@@ -39,11 +39,10 @@ pub fn fill(form: Form, columns: usize, line: &[u8], buffers: &mut Buffers<'_>)
     while at < line.len() {
         let found = utf8::unchecked::char_at(line, at);
         let end = at + found.len;
-        let Ok(stepped) = read_state::unchecked::follow(state, form, found.value) else {
-            unreachable!()
-        };
+        let stepped = read_state::unchecked::follow(state, form, found.value);
+        let Ok(act) = stepped.act else { unreachable!() };
         read_stores::unchecked::turn(
-            stepped.act,
+            act,
             found.value,
             &line[at..end],
             counts,
@@ -51,7 +50,7 @@ pub fn fill(form: Form, columns: usize, line: &[u8], buffers: &mut Buffers<'_>)
             &tables,
             &mut own,
         );
-        counts.tally(stepped.act, found.len);
+        counts.tally(act, found.len);
         state = stepped.state;
         at = end;
     }

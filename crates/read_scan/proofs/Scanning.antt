@@ -26,6 +26,7 @@ use Rattle.read_state.specs.declared.State.{State}
 use Rattle.std.specs.Prelude.{Result}
 use Rattle.sentence.specs.declared.Reason.{Reason}
 use Rattle.sentence.specs.declared.Refusal.{Refusal}
+use Rattle.read_state.specs.declared.Act as acts
 use Rattle.read_state.specs.declared.Stepped.{Stepped}
 use Rattle.read_state.specs.States.{state_of, state_in, act_of, stepped, ended}
 use Rattle.read_state.proofs.Enums.{state_back}
@@ -101,28 +102,28 @@ module _ {f : Form} {x : List ℕ} {s : State} {k : Counts} {p : ℕ} (h : Scann
   pub stands : {d : Decoded} {v n : ℕ} → d ≡ decode_at x p → d ≡ Char v n → Span x p n
   stands {d} {v} {n} d₁ d₂ = span x p v n h.within h.short (sym d₁ ∙ d₂)
 
-  module _ {d : Decoded} {v n : ℕ} (d₁ : d ≡ decode_at x p) (d₂ : d ≡ Char v n) (r : Result Stepped Reason)
+  module _ {d : Decoded} {v n : ℕ} (d₁ : d ≡ decode_at x p) (d₂ : d ≡ Char v n) (r : Stepped)
       (w : r ≡ stepped (advance f (state_of s) v)) where
     at_char : decode_at x p ≡ Char v n
     at_char = sym d₁ ∙ d₂
 
     -- a character that steps the reader
-    pub scan_go : {a : Stepped} {k' : Counts} → r ≡ Ok a → ((m : ℕ) → k' ≡ tally_by n (act_of m a.act) k) → Scanning f x a.state k' (p + n)
+    pub scan_go : {a : acts.Act} {k' : Counts} → r.act ≡ Ok a → ((m : ℕ) → k' ≡ tally_by n (act_of m a) k) → Scanning f x r.state k' (p + n)
     unfolding run follow
     scan_go {a} {k'} i e =
-        let g : advance f (state_of s) v ≡ go (state_of a.state) (act_of v a.act) = advanced v s r f a w i in
-        let o : ActOf v (act_of v a.act) = subst (StepOf v) g (advance_of f (state_of s) v) in
-        let j : k' ≡ tally (act_of v a.act) k = e v ∙ rw (width_at x p v n at_char) (tally_width (act_of v a.act) v k o) in
+        let g : advance f (state_of s) v ≡ go (state_of r.state) (act_of v a) = advanced v s r f a w i in
+        let o : ActOf v (act_of v a) = subst (StepOf v) g (advance_of f (state_of s) v) in
+        let j : k' ≡ tally (act_of v a) k = e v ∙ rw (width_at x p v n at_char) (tally_width (act_of v a) v k o) in
         record {
           short = h.short;
           within = char_within x p v n h.within at_char;
-          small = rw (e v) (tally_small n p (act_of v a.act) k (omega (arith, len_ok x p v n at_char)) h.small);
+          small = rw (e v) (tally_small n p (act_of v a) k (omega (arith, len_ok x p v n at_char)) h.small);
           passed = passed_char x p v n d d₁ d₂ h.passed;
-          same = rw j (sym (told_push (length x) k (act_of v a.act) (run f (state_of a.state) (scalars (drop (p + n) x)))) ∙ rw (left_char x p v n at_char, g) at h.same);
+          same = rw j (sym (told_push (length x) k (act_of v a) (run f (state_of r.state) (scalars (drop (p + n) x)))) ∙ rw (left_char x p v n at_char, g) at h.same);
         }
 
     -- a character that is refused
-    pub scan_stop : {q : Reason} {u : Refusal} → r ≡ Err q → Err u ≡ or_invalid x (Err (because q p)) → Err u ≡ scanned (read f x)
+    pub scan_stop : {q : Reason} {u : Refusal} → r.act ≡ Err q → Err u ≡ or_invalid x (Err (because q p)) → Err u ≡ scanned (read f x)
     unfolding run follow told
     scan_stop {q} {u} i e =
         let z = refused v s r f q w i in

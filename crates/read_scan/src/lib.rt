@@ -61,9 +61,10 @@ pub fn scan(form: Form, line: &[u8]) -> Result<Record, Refusal>
     loop {
         match utf8::decode(line, at) {
             Decoded::Char { value, len } => {
-                match state.step(form, value) {
-                    Ok(stepped) => {
-                        counts.tally(stepped.act, len);
+                let stepped = state.step(form, value);
+                match stepped.act {
+                    Ok(act) => {
+                        counts.tally(act, len);
                         state = stepped.state;
                     }
                     Err(reason) => return Err(stopped(line, at, reason)),

@@ -1,5 +1,5 @@
 -- One step of the definitions' reader, by what the code tests first. Assumes nothing.
-use Rattle.std.specs.Prelude.{Result, Ok, Err}
+use Rattle.std.specs.Prelude.{Ok, Err}
 use Prim.Native.Nat.{ℕ}
 use mathlib.Core.Path.{◌≡◌, refl, sym, ◌∙◌}
 use mathlib.Core.Bool.{Bool, true, false}
@@ -17,6 +17,7 @@ use Rattle.sentence.specs.Reading.{kind, ordinary, inside, opening, step, advanc
 use Rattle.sentence.proofs.Shape.{StepOf, step_of}
 use Rattle.read_state.specs.declared.State.{State}
 use Rattle.read_state.specs.declared.Mark.{Mark}
+use Rattle.read_state.specs.declared.Act.{Act}
 use Rattle.read_state.specs.declared.Stepped.{Stepped}
 use Rattle.read_state.specs.declared.Kind as kinds
 use Rattle.read_state.specs.States.{mark_of, kind_in, place_of, state_of, state_in, act_in, act_of, stepped, literal}
@@ -80,7 +81,7 @@ step_meant partial behind c w h = inside_meant partial behind c w
 step_meant partial in_tag c w h = inside_meant partial in_tag c w
 
 -- ---- a character that is not NUL; the premises are as `follow` has them
-module _ (s : State) (f : Form) (c : ℕ) (r : Result Stepped Reason) (z : c ≡ 0 → ⊥) where
+module _ (s : State) (f : Form) (c : ℕ) (r : Stepped) (z : c ≡ 0 → ⊥) where
   advance_escaped : s.escape ≡ true → advance f (state_of s) c ≡ ordinary f (place_of s.place) c
   unfolding advance state_of step when◌then◌else◌
   advance_escaped h = rw (ne_eqb c 0 z, h)
@@ -136,20 +137,21 @@ pub record Stops (s : reading.Step) (q : Reason) : Type 0 where
   pub is : s ≡ stop number
   pub reason : q ≡ reason_of number
 
-module _ (c : ℕ) (s : State) (r : Result Stepped Reason) where
-  steps_on : (a : Stepped) (e : reading.Step) → StepOf c e → r ≡ stepped e → r ≡ Ok a → e ≡ go (state_of a.state) (act_of c a.act)
+module _ (c : ℕ) (s : State) (r : Stepped) where
+  steps_on : (a : Act) (e : reading.Step) → StepOf c e → r ≡ stepped e → r.act ≡ Ok a → e ≡ go (state_of r.state) (act_of c a)
   steps_on a (go σ b) o w i =
-      let j : a ≡ record { state = state_in σ; act = act_in b } = cc in
-      rw (j, state_back σ, act_back c b o)
-  steps_on a (stop n) o w i = cc
+      let u : Ok (act_in b) ≡ Ok a = rw w at i in
+      let j : a ≡ act_in b = cc in
+      rw (w, j, state_back σ, act_back c b o)
+  steps_on a (stop n) o w i = let u : Err (reason_of n) ≡ Ok a = rw w at i in cc
 
-  steps_off : (q : Reason) (e : reading.Step) → r ≡ stepped e → r ≡ Err q → Stops e q
-  steps_off q (go σ b) w i = cc
-  steps_off q (stop n) w i = record { number = n; is = refl; reason = cc }
+  steps_off : (q : Reason) (e : reading.Step) → r ≡ stepped e → r.act ≡ Err q → Stops e q
+  steps_off q (go σ b) w i = let u : Ok (act_in b) ≡ Err q = rw w at i in cc
+  steps_off q (stop n) w i = let u : Err (reason_of n) ≡ Err q = rw w at i in record { number = n; is = refl; reason = cc }
 
-  pub advanced : (f : Form) (a : Stepped) → r ≡ stepped (advance f (state_of s) c) → r ≡ Ok a
-      → advance f (state_of s) c ≡ go (state_of a.state) (act_of c a.act)
+  pub advanced : (f : Form) (a : Act) → r ≡ stepped (advance f (state_of s) c) → r.act ≡ Ok a
+      → advance f (state_of s) c ≡ go (state_of r.state) (act_of c a)
   advanced f a w i = steps_on a (advance f (state_of s) c) (advance_of f (state_of s) c) w i
 
-  pub refused : (f : Form) (q : Reason) → r ≡ stepped (advance f (state_of s) c) → r ≡ Err q → Stops (advance f (state_of s) c) q
+  pub refused : (f : Form) (q : Reason) → r ≡ stepped (advance f (state_of s) c) → r.act ≡ Err q → Stops (advance f (state_of s) c) q
   refused f q w i = steps_off q (advance f (state_of s) c) w i

@@ -73,10 +73,14 @@ act_of c (Letter m) = reading.letter (mark_of m) c
 act_of c Opens = reading.opens
 act_of c OfTag = reading.of_tag c
 
+-- a refusal, as a step hands it back: beside the reason stands the state before any text
+abbrev pub refuses : Reason → Stepped
+refuses q = record { state = state_in (reading.at reading.start); act = Err q }
+
 -- a step, as the code hands it back: the next state and what the character does, or why it is refused
-abbrev pub stepped : reading.Step → Result Stepped Reason
-stepped (reading.go σ a) = Ok (record { state = state_in σ; act = act_in a })
-stepped (reading.stop e) = Err (reason_of e)
+abbrev pub stepped : reading.Step → Stepped
+stepped (reading.go σ a) = record { state = state_in σ; act = Ok (act_in a) }
+stepped (reading.stop e) = refuses (reason_of e)
 
 -- the line's end: it is whole, or why it is refused
 abbrev pub ended : reading.Run → Result (Unit {0}) Reason

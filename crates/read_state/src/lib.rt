@@ -3,13 +3,13 @@
 
 pub mod unchecked;
 
-ghost use Rattle.std.specs.Prelude.{◌≡◌, ℕ, Ok};
+ghost use Rattle.std.specs.Prelude.{◌≡◌, ℕ};
 ghost use Rattle.sentence.specs.Sentence.{code};
 ghost use Rattle.sentence.specs.Refusals.{reason_of};
 ghost use Rattle.sentence.specs.declared.Form.TheVariants.{Tokenized as tokenized, Partial as partial};
 ghost use Rattle.sentence.specs.Reading.{mark, slash, back, at, start, behind, go, letter, kind, ordinary, step};
 ghost use Rattle.sentence.specs.Reading.{advance, unfinished, finish};
-ghost use Rattle.read_state.specs.States.{mark_of, place_of, state_of, state_in, kind_in, awaits, literal, stepped, ended};
+ghost use Rattle.read_state.specs.States.{mark_of, place_of, state_of, state_in, kind_in, awaits, literal, refuses, stepped, ended};
 
 use sentence::{Form, Reason};
 
@@ -70,11 +70,12 @@ pub struct State {
     pub place: Place,
 }
 
-// What a step hands back: the next state, and what the character does.
+// What a step hands back: the next state, and what the character does, or why it is refused.
 #[derive(Clone, Copy)]
 pub struct Stepped {
     pub state: State,
-    pub act: Act,
+    // A field, since a `Result` of the whole is packed, and taken apart for each character.
+    pub act: Result<Act, Reason>,
 }
 
 // As casts, since `From` is no constant function.
@@ -175,85 +176,95 @@ impl State {
         State::at(Place::Start)
     }
 
+    // A refusal, beside the state before any text.
+    fn refused(reason: Reason) -> Stepped
+        ensures { result ≡ refuses reason }
+    {
+        Stepped {
+            state: State::new(),
+            act: Err(reason),
+        }
+    }
+
     // A character of the text, with the boundary before it.
     #[tactic(auto, using(crate::proofs::Enums::mark_back))]
     fn letter(m: Mark) -> Stepped
-        ensures { Ok result ≡ stepped (go (at behind) (letter (mark_of m) 0)) }
+        ensures { result ≡ stepped (go (at behind) (letter (mark_of m) 0)) }
     {
         Stepped {
             state: State::at(Place::Behind),
-            act: Act::Letter(m),
+            act: Ok(Act::Letter(m)),
         }
     }
 
     // An ordinary character: of the open tag, else text; behind another the partial form has none.
     #[tactic(auto, unfolding(sentence::specs::Reading::ordinary))]
-    fn ordinary(self, form: Form) -> Result<Stepped, Reason>
+    fn ordinary(self, form: Form) -> Stepped
         ensures { (c : ℕ) → result ≡ stepped (ordinary form (place_of self.place) c) }
     {
         match self.place {
-            Place::Start => Ok(State::letter(Mark::None)),
-            Place::Gap(m) => Ok(State::letter(m)),
-            Place::InTag => Ok(Stepped {
+            Place::Start => State::letter(Mark::None),
+            Place::Gap(m) => State::letter(m),
+            Place::InTag => Stepped {
                 state: State::at(Place::InTag),
-                act: Act::OfTag,
-            }),
+                act: Ok(Act::OfTag),
+            },
             Place::Behind => match form {
-                Form::Raw => Ok(State::letter(Mark::Unknown)),
-                Form::Tokenized => Ok(State::letter(Mark::None)),
-                Form::Partial => Err(Reason::BadMark),
+                Form::Raw => State::letter(Mark::Unknown),
+                Form::Tokenized => State::letter(Mark::None),
+                Form::Partial => State::refused(Reason::BadMark),
             },
         }
     }
 
     // A plain boundary: none is right where a token begins.
     #[tactic(auto, unfolding(sentence::specs::Reading::step, sentence::specs::Reading::inside, sentence::specs::Reading::opening))]
-    fn boundary(self, m: Mark) -> Result<Stepped, Reason>
+    fn boundary(self, m: Mark) -> Stepped
         ensures { result ≡ stepped (step tokenized (at (place_of self.place)) (mark (mark_of m)) 0) }
     {
         match self.place {
-            Place::Start => Err(Reason::LeadingSpace),
-            Place::Gap(_) => Err(Reason::SecondSpace),
-            _ => Ok(Stepped {
+            Place::Start => State::refused(Reason::LeadingSpace),
+            Place::Gap(_) => State::refused(Reason::SecondSpace),
+            _ => Stepped {
                 state: State::at(Place::Gap(m)),
-                act: Act::Skip,
-            }),
+                act: Ok(Act::Skip),
+            },
         }
     }
 
     // A plain slash: none is right where a token begins.
     #[tactic(auto, unfolding(sentence::specs::Reading::step, sentence::specs::Reading::inside, sentence::specs::Reading::opening))]
-    fn slash(self) -> Result<Stepped, Reason>
+    fn slash(self) -> Stepped
         ensures { result ≡ stepped (step tokenized (at (place_of self.place)) slash 0) }
     {
         if self.place.awaits() {
-            return Err(Reason::StraySlash);
+            return State::refused(Reason::StraySlash);
         }
-        Ok(Stepped {
+        Stepped {
             state: State::at(Place::InTag),
-            act: Act::Opens,
-        })
+            act: Ok(Act::Opens),
+        }
     }
 
     // A plain backslash: the next character is ordinary.
     fn backslash(self) -> Stepped
-        ensures { Ok result ≡ stepped (step tokenized (at (place_of self.place)) back 0) }
+        ensures { result ≡ stepped (step tokenized (at (place_of self.place)) back 0) }
     {
         Stepped {
             state: State {
                 escape: true,
                 place: self.place,
             },
-            act: Act::Skip,
+            act: Ok(Act::Skip),
         }
     }
 
     // One character: the next state and what the character does, or why it is refused.
-    pub fn step(self, form: Form, c: u32) -> Result<Stepped, Reason>
+    pub fn step(self, form: Form, c: u32) -> Stepped
         ensures { result ≡ stepped (advance form (state_of self) c) }
     {
         if c == 0 {
-            return Err(Reason::Nul);
+            return State::refused(Reason::Nul);
         }
         unchecked::follow(self, form, c)
     }

@@ -4,11 +4,11 @@ ghost use Rattle.sentence.specs.Reading.{advance};
 ghost use Rattle.read_state.specs.States.{state_of, stepped};
 
 use crate::{Kind, State, Stepped, meaning};
-use sentence::{Form, Reason};
+use sentence::Form;
 
 // One character that is no NUL, compiled into the loop of each pass.
 #[inline(always)]
-pub fn follow(s: State, form: Form, c: u32) -> Result<Stepped, Reason>
+pub fn follow(s: State, form: Form, c: u32) -> Stepped
     requires { c ≡ 0 → ⊥ }
     ensures { result ≡ stepped (advance form (state_of s) c) }
 {
@@ -18,7 +18,7 @@ pub fn follow(s: State, form: Form, c: u32) -> Result<Stepped, Reason>
     match meaning(form, c) {
         Kind::Mark(m) => s.boundary(m),
         Kind::Slash => s.slash(),
-        Kind::Back => Ok(s.backslash()),
+        Kind::Back => s.backslash(),
         Kind::Plain => s.ordinary(form),
     }
 }

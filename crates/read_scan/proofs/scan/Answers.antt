@@ -12,7 +12,7 @@ pub loop-value-init : goal.loop-value-init
 loop-value-init c = search scan_start
 
 pub returns-in-Err : goal.returns-in-Err
-returns-in-Err c = scan_stop c.loop-value.invariant c.decode.ensures c.in-Char.is _ c.step.ensures c.in-Err.is c.stopped.ensures
+returns-in-Err c = scan_stop c.loop-value.invariant c.decode.ensures c.in-Char.is _ c.step-stepped.ensures c.in-Err.is c.stopped.ensures
 
 -- the character that stands where the loop is
 stood : (c : In-Char) → Span c.args.line.now c.loop-value.at c.in-Char.len
@@ -28,7 +28,7 @@ pub loop-value-smaller : goal.loop-value-smaller
 loop-value-smaller c = omega (arith, stood (goal.at.loop-value-smaller c).In-Char)
 
 pub loop-value-preserved : goal.loop-value-preserved
-loop-value-preserved c = scan_go c.loop-value.invariant c.decode.ensures c.in-Char.is _ c.step.ensures c.in-Ok.is c.tally.ensures
+loop-value-preserved c = scan_go c.loop-value.invariant c.decode.ensures c.in-Char.is _ c.step-stepped.ensures c.in-Ok.is c.tally.ensures
 
 pub returns-in-Bad : goal.returns-in-Bad
 returns-in-Bad c = search scan_bad

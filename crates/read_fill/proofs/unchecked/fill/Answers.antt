@@ -20,17 +20,17 @@ span c = lay_span c.loop-at.invariant.laying c.char_at-found.ensures
 pub overflow_add-end : goal.overflow_add-end
 overflow_add-end c = omega (arith, span (goal.at.overflow_add-end c).After-char_at-found)
 
-pub follow-requires : goal.follow-requires
-follow-requires c = lay_some c.loop-at.invariant.laying c.char_at-found.ensures
+pub follow-stepped-requires : goal.follow-stepped-requires
+follow-stepped-requires c = lay_some c.loop-at.invariant.laying c.char_at-found.ensures
 
 pub unreachable-requires : goal.unreachable-requires
-unreachable-requires c = lay_on c.loop-at.invariant.laying c.char_at-found.ensures _ c.follow.ensures _ c.in_default.is
+unreachable-requires c = lay_on c.loop-at.invariant.laying c.char_at-found.ensures _ c.follow-stepped.ensures _ c.in_default.is
 
 pub slice_bounds-turn-end : goal.slice_bounds-turn-end
 slice_bounds-turn-end c = omega (arith, span (goal.at.slice_bounds-turn-end c).After-char_at-found)
 
 pub turn-requires : goal.turn-requires
-turn-requires c = lay_turning c.loop-at.invariant.laying c.char_at-found.ensures _ c.follow.ensures c.in-Ok.is
+turn-requires c = lay_turning c.loop-at.invariant.laying c.char_at-found.ensures _ c.follow-stepped.ensures c.in-Ok.is
 
 pub tally-requires : goal.tally-requires
 tally-requires c = (lay_small c.loop-at.invariant.laying, (span (goal.at.tally-requires c).After-char_at-found).few)
@@ -40,7 +40,7 @@ loop-at-smaller c = omega (arith, span (goal.at.loop-at-smaller c).After-char_at
 
 pub loop-at-preserved : goal.loop-at-preserved
 loop-at-preserved c = record {
-  laying = lay_go c.loop-at.invariant.laying c.char_at-found.ensures _ c.follow.ensures c.in-Ok.is c.turn.ensures.stored c.tally.ensures;
+  laying = lay_go c.loop-at.invariant.laying c.char_at-found.ensures _ c.follow-stepped.ensures c.in-Ok.is c.turn.ensures.stored c.tally.ensures;
   same_room = search rules;
 }
 
