@@ -10,9 +10,9 @@ mod damage;
 mod show;
 
 use sheet::{Buffers, Record};
-use std::io;
+use std::io::{self, Stdout, Write};
 use test_calls::{change, look, sheet_of};
-use test_casework::{Sink, answer_lines, byte, field, first, place, read_full};
+use test_casework::{Sink, byte, field, first, place, read_full};
 
 // The cells of 17 characters in 4,096 columns.
 const CELLS: usize = 69632;
@@ -181,9 +181,32 @@ fn answer(line: &[u8], sink: Sink) -> Sink {
     }
 }
 
+// Writes a line as a whole, which a sink would not, and behind it its answer if it is a case.
+fn show_line(out: Stdout, line: &[u8]) -> io::Result<()> {
+    out.write_all(line)?;
+    let sink = Sink::new(out);
+    let told = if first(line) == b'#' {
+        sink
+    } else {
+        answer(line, sink)
+    };
+    told.put(b'\n').finish()
+}
+
+// Writes each line of a text.
+fn run(out: Stdout, text: &[u8]) -> io::Result<()> {
+    if text.is_empty() {
+        return Ok(());
+    }
+    let lines = text.strip_suffix(b"\n").unwrap_or(text);
+    for line in lines.split(|b| *b == b'\n') {
+        show_line(out, line)?;
+    }
+    Ok(())
+}
+
 fn main(rt: HostRuntime) -> io::Result<()> {
     let mut input = [0u8; 65536];
     let n = read_full(&mut rt.stdin(), &mut input)?;
-    let mut line = [0u8; 65536];
-    answer_lines(&mut &input[..n], rt.stdout(), &mut line, answer)
+    run(rt.stdout(), &input[..n])
 }
