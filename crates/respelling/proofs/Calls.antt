@@ -101,6 +101,15 @@ pub told_error : {a : Result ℕ Error} {e : Error} {o : Option ℤ} {b : Bool} 
 unfolding read_told call_of when◌then◌else◌
 told_error {e = e} r q t p = rw r (p ∙ rw (t, q) (sym (error_is (raw_os_error e))))
 
+module _ {a : Result ℕ Error} {e : Error} {o : Option ℤ} {b : Bool} (r : a ≡ Err e) (q : o ≡ raw_os_error e) (t : b ≡ option_eq int_eq o (Some (pos 4))) where
+  pub told_again : b ≡ true → Again ≡ read_told a
+  unfolding call_of when◌then◌else◌
+  told_again u = told_error r q t (rw u refl)
+
+  pub told_failed : b ≡ false → Failed ≡ read_told a
+  unfolding call_of when◌then◌else◌
+  told_failed u = told_error r q t (rw u refl)
+
 module _ {a : Result ℕ Error} {n : ℕ} (r : a ≡ Ok n) where
   pub told_nothing : n ≡ 0 → Failed ≡ write_told a
   unfolding write_told

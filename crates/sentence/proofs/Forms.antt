@@ -22,6 +22,26 @@ is_partial zero a b = absurd (a refl)
 is_partial (suc zero) a b = absurd (b refl)
 is_partial (suc (suc n)) a b = refl
 
+-- the form that a number reads in
+pub read_0 : {n : ℕ} → n ≡ 0 → Ok raw ≡ reader_of n
+unfolding reader_of no_reader form_of when◌then◌else◌
+read_0 e = rw e refl
+
+pub read_1 : {n : ℕ} → n ≡ 1 → Ok tokenized ≡ reader_of n
+unfolding reader_of no_reader form_of when◌then◌else◌
+read_1 e = rw e refl
+
+pub read_2 : {n : ℕ} → n ≡ 2 → Ok partial ≡ reader_of n
+unfolding reader_of no_reader form_of when◌then◌else◌
+read_2 e = rw e refl
+
+pub read_none : (n : ℕ) → (n ≡ 0 → ⊥) → (n ≡ 1 → ⊥) → (n ≡ 2 → ⊥) → Err (refusal 16 0) ≡ reader_of n
+unfolding reader_of no_reader when◌then◌else◌
+read_none zero a b c = absurd (a refl)
+read_none (suc zero) a b c = absurd (b refl)
+read_none (suc (suc zero)) a b c = absurd (c refl)
+read_none (suc (suc (suc n))) a b c = rw (lt-ltb 2 (suc (suc (suc n))) (omega arith)) refl
+
 -- what a test gives that tells a refused answer and a served one apart
 module _ {A : Type 0} {b c : Bool} (q : Refusal) (x : A) (e : c ≡ b) where
   pub tests_refused : c ≡ true → Err q ≡ (when b then Err q else Ok x)
@@ -70,6 +90,26 @@ not_written n e = tested_err (no_writer n) (refusal 16 0) (form_of n) e
 pub either : (b : Bool) → b || true ≡ true
 either true = refl
 either false = refl
+
+-- what a number is written in, by what it is read in
+pub no_reader_written : (n : ℕ) {a b : prelude.Result Form Refusal} {q : Refusal} → a ≡ reader_of n → a ≡ Err q → b ≡ Err q → b ≡ writer_of n
+unfolding writer_of no_writer when◌then◌else◌
+no_reader_written n e h i =
+    let k = not_read n (sym h ∙ e) in
+    rw (i, k.1, k.0, either (eqb n 0))
+
+pub raw_written : (n : ℕ) {a : prelude.Result Form Refusal} {f : Form} → a ≡ reader_of n → a ≡ Ok f → f ≡ raw → Err (refusal 16 0) ≡ writer_of n
+unfolding writer_of no_writer form_of when◌then◌else◌
+raw_written zero e h i = refl
+raw_written (suc zero) e h i = let k : tokenized ≡ raw = sym (read_form 1 (sym h ∙ e)).1 ∙ i in let y : ◌≡◌ {A = ℕ} 0 1 = cc in absurd (omega arith)
+raw_written (suc (suc n)) e h i =
+    let k : partial ≡ raw = sym (read_form (suc (suc n)) (sym h ∙ e)).1 ∙ i in let y : ◌≡◌ {A = ℕ} 0 1 = cc in absurd (omega arith)
+
+pub form_written : (n : ℕ) {a : prelude.Result Form Refusal} {f : Form} → a ≡ reader_of n → a ≡ Ok f → (f ≡ raw → ⊥) → Ok f ≡ writer_of n
+unfolding writer_of no_writer no_reader form_of when◌then◌else◌
+form_written zero e h i = absurd (i (read_form 0 (sym h ∙ e)).1)
+form_written (suc zero) e h i = ap Ok (read_form 1 (sym h ∙ e)).1
+form_written (suc (suc n)) e h i = let k = read_form (suc (suc n)) (sym h ∙ e) in rw (ne_eqb (suc (suc n)) 0 (omega arith), k.0, k.1)
 
 is_annotated : (n : ℕ) → eqb n 0 ≡ false → Annotated (form_of n)
 unfolding form_of
